@@ -187,6 +187,9 @@ RUN = "run --seed {} --clients {} --calls 200 --docs 3 --copies 5"
 SEED = "a run takes --seed, or else --until and --seeds"
 UNTIL = "the value of --until is refuted"
 SEEDS = "the value of --seeds is two numbers below 2^64, the least first, as 1-1000"
+LINES = "the value of --lines is two numbers below 2^64, the least first, as 1-1000"
+NO_PAGE = "--document needs the page on which it is drawn, with --html"
+NO_DOCUMENT = "--lines needs the --document whose calls are drawn"
 
 
 def missing(*names):
@@ -225,6 +228,17 @@ REFUSED = [
     ("verify a", missing("<WITNESS>")),
     ("verify a b c", UNKNOWN.format("c")),
     ("check --html p", UNKNOWN.format("--html")),
+    # what is drawn on a page
+    ("check --document d", UNKNOWN.format("--document")),
+    ("explain --document", NO_VALUE.format("--document <ID>")),
+    ("explain --document=d --document=e --html p", TWICE.format("--document <ID>")),
+    ("explain --document d", NO_PAGE),
+    ("explain --document d --lines 1-2", NO_PAGE),
+    ("explain --lines 1-2", NO_DOCUMENT),
+    ("explain --html p --lines 1-2", NO_DOCUMENT),
+    *((f"explain --html p --document d --lines {it}", LINES) for it in ("2-1", "1", "1-", "1-2-3", "a-b", "''")),
+    ("explain --html p --document d --lines 1-18446744073709551616", LINES),
+    ("explain --html p --document d --conflicts no", READING),
     # numbers of workers
     ("check --workers 0", wrong("0", "--workers <N>")),
     ("check --workers 17", wrong("17", "--workers <N>")),
@@ -309,8 +323,8 @@ HELP += [(form.format(name), "\n      --rule-out ") for form in FORMS for name i
 HELP += [("--help", "\nExit status:\n  0   yes"), ("--help", "\n  6   yes, with fewer calls")]
 HELP += [(form.format("check"), "\n      --at-least <CALLS>") for form in FORMS]
 
-# How the sentence of a page begins that says what it was made with.
-MADE_WITH = f"Made by {VERSION.strip()} with --conflicts ".encode()
+# What a page has at its top: the file of the history, and the options.
+FILE, OPTIONS = "<dt>file</dt><dd>{}</dd>", "<dt>options</dt><dd>--conflicts {} {}--workers {}</dd>"
 
 # Arguments that ask for a story with a page, the page's name, how the story begins, and the page if it is known.
 STORIES = [
@@ -459,15 +473,21 @@ class Arguments(ProgramTest):
     def check_story(self, folder, arguments, page, wanted, known):
         status, out, why = self.ran(arguments, folder)
         self.assertEqual((status, why, out[: len(wanted)]), (status_of(wanted), "", wanted))
-        text = (folder / page).read_bytes()
+        text = (folder / page).read_text()
+        options = self.options_shown(arguments)
+        self.assertEqual(text.count(options), 1)
         if known:
-            reading = b"maybe" if "maybe" in arguments else b"plain"
-            known_text = known.read_bytes().replace(MADE_WITH + b"plain", MADE_WITH + reading)
+            known_text = known.read_text().replace(FILE.format(f"{known.stem}.ndjson"), FILE.format("story"))
+            known_text = known_text.replace(OPTIONS.format("plain", "", 1), options)
             self.assertTrue(text == known_text, f"the page is not {known}")
-            self.assertEqual(text.count(MADE_WITH + reading + b"."), 1)
         else:
-            self.assertTrue(text.startswith(b"<!doctype html>"))
-            self.assertIn(wanted.strip().encode(), text)
+            self.assertTrue(text.startswith("<!doctype html>"))
+            self.assertIn(wanted.strip(), text)
+
+    def options_shown(self, arguments):
+        """The options of a page that is made with these arguments."""
+        reading = "maybe" if "=maybe" in arguments else "plain"
+        return OPTIONS.format(reading, "--rule-out " if "--rule-out" in arguments else "", 3 if "--workers 3" in arguments else 1)
 
     def test_stories(self):
         """The story begins as is wanted, and the page is the known one."""

@@ -116,6 +116,16 @@ class Documents(ProgramTest):
         self.assertNotEqual(pages, [])
         self.run_subtests(self.check_page, [(str(it.relative_to(TOP)), it) for it in pages])
 
+    def test_headlines(self):
+        """Each headline of docs/FORMATS.md has the page of an example."""
+        formats = (TOP / "docs" / "FORMATS.md").read_text(encoding="utf-8")
+        table = formats[formats.index("#### Headlines") : formats.index("### By witness")]
+        wanted = set(re.findall(r"^\| ([A-Z][^|`]*[a-z]) \|", table, re.MULTILINE))
+        pages = (TOP / "examples").glob("*.html")
+        shown = {re.search("<h1>([^:<]*)", it.read_text(encoding="utf-8"))[1] for it in pages}
+        self.assertGreaterEqual(len(wanted), 10)
+        self.assertEqual(wanted - shown, set())
+
 
 if __name__ == "__main__":
     sys.exit(run_tests())

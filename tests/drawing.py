@@ -1,8 +1,8 @@
 """What drawn recordings are made of: drawn numbers, operations, replies, what an index does, and the lines of a
 history.
 
-It is no test itself; tests/agree.py, tests/evidence.py, tests/lines.py, tests/offences.py, tests/orders.py,
-tests/ruled_out.py and tests/small_drawing.py draw with it.
+It is no test itself; tests/agree.py, tests/anomalies.py, tests/evidence.py, tests/lines.py, tests/offences.py,
+tests/orders.py, tests/ruled_out.py and tests/small_drawing.py draw with it.
 """
 
 from typing import NamedTuple

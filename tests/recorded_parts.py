@@ -3,8 +3,8 @@
 
     python3 tests/recorded_parts.py [PROGRAM]
 
-PROGRAM is the built casbench; if it isn't named, the one that ./casbench would run. GNU parallel is tried where it is installed; else
-a line says so. The last line says how many tests passed and failed.
+PROGRAM is the built casbench; if it isn't named, the one that ./casbench would run. The last line says how many tests
+passed and failed.
 """
 
 import os
@@ -16,7 +16,6 @@ import signal
 import subprocess
 import sys
 import time
-import unittest
 
 from program import TOP
 from program_test import run_tests
@@ -25,15 +24,6 @@ from texts import created, found, get, index, refused, refuted, updated, yes
 
 from casbench_recording.continuing import Continuing
 from casbench_recording.history import MOST_EVENTS, Operation, Pair, text_of_write
-
-
-def is_gnu_parallel():
-    """Whether there is GNU parallel here."""
-    try:
-        ran = subprocess.run(["parallel", "--version"], stdin=subprocess.DEVNULL, capture_output=True, text=True)
-    except OSError:
-        return False
-    return ran.stdout.startswith("GNU parallel")
 
 
 def record(*words):
@@ -191,13 +181,13 @@ def commands_shown():
     """The commands by which docs/RECORDING.md checks a folder, by the names of what runs them."""
     page = (TOP / "docs" / "RECORDING.md").read_text(encoding="utf-8")
     section = page[page.index("### Side by side") :]
-    return dict(re.findall(r"^\*\*By ([\w ]+)\.\*\*.*?^```\n(.*?)^```$", section, re.MULTILINE | re.DOTALL))
+    return dict(re.findall(r"^\*\*By ([\w ]+)\*\*.*?^```\n(.*?)^```$", section, re.MULTILINE | re.DOTALL))
 
 
 class SideBySide(FolderTest):
     """The commands of docs/RECORDING.md that check a folder."""
 
-    def ended(self, name, *folders, **more):
+    def ended(self, name, *folders):
         """How a command ends that checks the files of these folders: its status, and the lines that it writes."""
         parts = pathlib.Path(self.folder) / "out" / "parts"
         parts.mkdir(parents=True, exist_ok=True)
@@ -208,7 +198,7 @@ class SideBySide(FolderTest):
         program = pathlib.Path(self.folder) / "casbench"
         if not program.exists():
             program.symlink_to(self.program)
-        how = {"cwd": self.folder, "capture_output": True, "text": True, "timeout": 100, "env": environment(HOME=self.folder, **more)}
+        how = {"cwd": self.folder, "capture_output": True, "text": True, "timeout": 100, "env": environment(HOME=self.folder)}
         ran = subprocess.run(["sh", "-c", commands_shown()[name]], stdin=subprocess.DEVNULL, **how)
         return ran.returncode, sorted(ran.stdout.splitlines(keepends=True))
 
@@ -216,17 +206,12 @@ class SideBySide(FolderTest):
         self.assertEqual(self.ended("xargs", RIGHT), (0, [YES] * 3))
         self.assertEqual(self.ended("xargs", RIGHT, WRONG, NO_TEXT), (123, [REFUSED, REFUTED] + [YES] * 3))
 
-    @unittest.skipUnless(is_gnu_parallel(), "GNU parallel isn't installed here, so no folder was checked by it")
-    def test_by_gnu_parallel(self):
-        names = [f"out/parts/{it}" for it in sorted(RIGHT)]
-        self.assertEqual(self.ended("GNU parallel", RIGHT), (0, [f"{it}\t{YES}" for it in names]))
-        wrong = [f"out/parts/shard-7.ndjson\t{REFUTED}", f"out/parts/shard-8.ndjson\t{REFUSED}"]
-        # (its status is how many jobs failed)
-        self.assertEqual(self.ended("GNU parallel", RIGHT, WRONG, NO_TEXT), (2, sorted([f"{it}\t{YES}" for it in names] + wrong)))
-
-    def test_by_an_array(self):
-        ends = [self.ended("an array of a batch queue", RIGHT, WRONG, SLURM_ARRAY_TASK_ID=str(it)) for it in range(1, 5)]
-        self.assertEqual(ends, [(0, [YES])] * 3 + [(1, [REFUTED])])
+    def test_by_check_itself(self):
+        rows = [(f"out/parts/{name}", YES) for name in RIGHT]
+        self.assertEqual(self.ended("check itself", RIGHT), (0, sorted(f"{name}: {line}" for name, line in rows)))
+        rows += [("out/parts/shard-7.ndjson", REFUTED), ("out/parts/shard-8.ndjson", REFUSED)]
+        lines = sorted(f"{name}: {line}" for name, line in rows)
+        self.assertEqual(self.ended("check itself", RIGHT, WRONG, NO_TEXT), (2, lines))
 
 
 if __name__ == "__main__":

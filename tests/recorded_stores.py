@@ -22,10 +22,12 @@ import tempfile
 import threading
 import time
 
+from explanations import headline, lines_cited, reasons
 from program import TOP
 from program_test import ProgramTest, run_tests
 from recordings import environment, judged
-from running import asked, ended, started
+from running import asked, ended, run, started
+from texts import OFFENCE
 
 from casbench_recording.witness import checked
 
@@ -190,12 +192,11 @@ class Table(ProgramTest):
                 self.check_row(row, *cells)
 
     def test_folded_table(self):
-        """The rows of a store in README have as many recordings as there are of it."""
+        """The rows in README have as many recordings as there are."""
         readme = (TOP / "README.md").read_text(encoding="utf-8")
-        for store, name in NAMES.items():
-            with self.subTest(name):
-                counts = re.findall(rf"^\| {name} \| .* \| (\d+) \|", readme, re.MULTILINE)
-                self.assertEqual(sum(map(int, counts)), 10 * sum(it.store == store for it in ROWS))
+        names = "|".join([*NAMES.values(), "all four"])
+        counts = re.findall(rf"^\| (?:{names}) \| .* \| (\d+) \|", readme, re.MULTILINE)
+        self.assertEqual(sum(map(int, counts)), 10 * len(ROWS))
 
     def test_lengths_of_mappings(self):
         for store in PACKAGES:
@@ -267,12 +268,17 @@ HONEST = {
     ],
 }
 
-# Recordings of stores that broke their promise: a name, the scenario, and the kind of evidence.
+# Recordings of stores that broke their promise: a name, the scenario, the kind of evidence, and the anomalies that an
+# explanation may name. A get that is behind shows an old version, or no document, or neither a write that another get
+# has shown before; a failover that gives versions anew shows at first that writes were lost.
+BEHIND = ("Stale read", "Acknowledged write not seen", "Shown and taken back")
+LOST = (*BEHIND, "One version given twice", "Acknowledged write lost", "Lost update", "Version that nobody wrote")
+LOST += ("Read of something nobody wrote",)
 BROKEN = {
-    "etcd": [("etcd, stale gets", "stale", "stale-get")],
-    "redis": [("Redis, a failover", "failover", "pair-twice")],
-    "postgresql": [("PostgreSQL, a failover", "failover", "pair-twice")],
-    "zookeeper": [("ZooKeeper, gets without sync", "unsynced", "stale-get")],
+    "etcd": [("etcd, stale gets", "stale", "stale-get", BEHIND)],
+    "redis": [("Redis, a failover", "failover", "pair-twice", LOST)],
+    "postgresql": [("PostgreSQL, a failover", "failover", "pair-twice", LOST)],
+    "zookeeper": [("ZooKeeper, gets without sync", "unsynced", "stale-get", BEHIND)],
 }
 
 # Recordings that are interrupted: a name, the scenario, what starts the recording, the signal, and how many nodes run.
@@ -315,11 +321,24 @@ class Recordings(ProgramTest):
         answers = [it.partition(" left_out=")[0] for it in answers]
         self.assertEqual(answers, [f"yes docs=8 calls={calls}", f"verified docs=8 calls={calls}"])
 
-    def check_broken(self, folder, store, scenario, kind):
-        """There is evidence of this kind, and the store's log doesn't explain the recording."""
+    def check_broken(self, folder, store, scenario, kind, anomalies):
+        """There is evidence of this kind, the store's log doesn't explain the recording, and an explanation names one of
+        these anomalies."""
         history, witness, _ = recorded(store, folder, scenario, "--scenario", scenario)
-        self.assertEqual(judged(self.program, history).partition(" calls=")[0], f"refuted kind={kind}")
+        line = judged(self.program, history)
+        self.assertEqual(line.partition(" calls=")[0], f"refuted kind={kind}")
         self.assertEqual(answer_by_log(self.program, history, witness).split()[0], "broken")
+        self.check_explanation(history, int(OFFENCE.match(f"{line}\n")["event"]) + 1, anomalies)
+
+    def check_explanation(self, history, broken, anomalies):
+        """The headline names one of these anomalies. It and the reasons cite no line after the broken reply if the text up to
+        that reply is refuted by itself."""
+        _, story, _ = run(self.program, ["explain", history])
+        anomaly, line = headline(story)
+        self.assertIn(anomaly, anomalies)
+        if max([line, *lines_cited(reasons(story))]) > broken:
+            begin = "".join(history.read_text().splitlines(keepends=True)[:broken])
+            self.assertEqual(run(self.program, ["check", "--rule-out"], begin)[1].split()[0], "no")
 
     def check_interrupted(self, store, scenario, starts, sent, nodes):
         """A recording gets this signal, or what started it does, in the midst of its work. The history is explained, no

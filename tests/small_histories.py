@@ -11,8 +11,9 @@ tests/small_drawing.py, each in both readings of a conflict. What has to hold of
 - With --rule-out the line is the same, or it is `refuted kind=ruled-out` in the place of `no`.
 - What README says in SENTENCES.
 - `explain` begins with the line of `check`; it says that this is proved, or that there is no order, only if there is
-  none; the reason that it names is that of the line; and its headline names an anomaly exactly if there is evidence or
-  a document is ruled out, that of the evidence by the table of docs/FORMATS.md.
+  none; and its headline names an anomaly exactly if there is evidence or a document is ruled out. Both are those of the
+  line, by the table of docs/FORMATS.md, unless a call of the evidence is answered after the broken reply. No reason
+  cites a line after that reply, unless the text up to it isn't refuted by itself.
 
 Some fixed histories show what is not promised: that a `no` is proved if a write may have been performed that no reply
 shows, and that every history without an order is refuted.
@@ -25,13 +26,14 @@ from typing import NamedTuple
 
 from drawing import lines
 from evidence import known_calls
+from explanations import lines_cited, reasons
 from exact import has_order, has_known_outcome, one_shard
 from program import TOP
 from program_test import ProgramTest, run_tests
 from ruled_out import answer, events_of, kind_of, without_option
 from running import asked, run, said
 from small_drawing import small_history
-from texts import MOST_OF_PAIR, READINGS, condition, conflict, created, delete, found, get, index, lost, no, places_of
+from texts import MOST_OF_PAIR, OFFENCE, READINGS, condition, conflict, created, delete, found, get, index, lost, no, places_of
 from texts import refuted, status_of, verified, witness_of
 
 # How many histories are drawn. In each reading, how many of them have to be of each kind at least.
@@ -121,13 +123,25 @@ def weight_of(story):
     return begun[0] if begun else None
 
 
-def weights_that_fit(line, ruled_out, is_settled):
-    """How that sentence may begin, if a check answers these lines, the second one with --rule-out."""
-    kind = kind_of(line)
+def is_late(history, line):
+    """Whether a call that the evidence of a line names is answered only after the broken reply."""
+    found = OFFENCE.fullmatch(line)
+    if not found or not found["calls"]:
+        return False
+    calls = known_calls(list(events_of(history.text)))
+    return any(calls[int(it)].replied > int(found["event"]) for it in found["calls"].split(","))
+
+
+def weights_that_fit(history, line, ruled_out):
+    """How that sentence may begin, if a check answers these lines, the second one with --rule-out. Reasons that precede
+    the broken reply may be others than the evidence of the line."""
+    kind, is_settled = kind_of(line), history.is_settled
     if kind == "yes":
         return {None}
+    if kind == "ruled-out":
+        return {LINE_RULED_OUT}
     if kind != "no":
-        return {LINE_RULED_OUT} if kind == "ruled-out" else {EVIDENT}
+        return {EVIDENT, LINE_RULED_OUT} if is_late(history, line) else {EVIDENT}
     # (a story says why a document is ruled out, also if the line doesn't)
     by_itself = {ANSWERED} if is_settled else {DOCUMENT_ANSWERED, UNDECIDED}
     return by_itself | {RULED_OUT} if kind_of(ruled_out) == "ruled-out" else by_itself
@@ -148,19 +162,39 @@ def check_story(history, line, ruled_out, story):
     """The story may be that of the history that gets the line, and with --rule-out the other one."""
     if history.is_explained and any(it in story for it in PROVED):
         raise AssertionError(f"there is an order, and a story says: {story[:600]}")
-    if weight_of(story) not in weights_that_fit(line, ruled_out, history.is_settled):
+    if weight_of(story) not in weights_that_fit(history, line, ruled_out):
         raise AssertionError(f"{line}, and a story says: {story[:600]}")
-    check_headline(line, story)
+    check_headline(history, line, story)
 
 
-def check_headline(line, story):
+def check_headline(history, line, story):
     """The headline of a story names an anomaly exactly if the story proves it by calls: that of the evidence, if the
-    line has some."""
+    line has some and no call of it is answered after the broken reply."""
     _, _, title, *_ = story.split("\n")
     anomaly = title.partition(":")[0]
     is_shown = weight_of(story) in (EVIDENT, LINE_RULED_OUT, RULED_OUT)
-    if (anomaly in ANOMALIES) != is_shown or anomaly != ANOMALY_OF.get(kind_of(line), anomaly):
+    fitting = ANOMALY_OF.get(kind_of(line), anomaly)
+    if (anomaly in ANOMALIES) != is_shown or anomaly != fitting and not is_late(history, line):
         raise AssertionError(f"{line}, and the headline is {title}")
+
+
+def check_reasons(program, history, line, story):
+    """The reasons cite a line after the broken reply only if the events up to it aren't refuted by themselves."""
+    cited = lines_cited(reasons(story))
+    if not cited:
+        return
+    broken = int(OFFENCE.fullmatch(line)["event"]) + 1
+    if max(cited) > broken:
+        begin = "".join(history.text.splitlines(keepends=True)[:broken])
+        if kind_of(answer(program, "check", begin, history.reading, "--rule-out")) != "no":
+            raise AssertionError(f"{line}, and the reasons cite line {max(cited)}: {story[:1200]}")
+
+
+def check_explanation(program, history, line, ruled_out, *options):
+    """Checks the explanation of a history that gets this line with the options."""
+    story = story_of(program, history, line, *options)
+    check_story(history, line, ruled_out, story)
+    check_reasons(program, history, line, story)
 
 
 def judged(program, history):
@@ -170,9 +204,9 @@ def judged(program, history):
         raise AssertionError(f"{line}, and with --rule-out {ruled_out}")
     for it in (line, ruled_out):
         check_line(history, it)
-    check_story(history, line, ruled_out, story_of(program, history, line))
+    check_explanation(program, history, line, ruled_out)
     if ruled_out != line:
-        check_story(history, ruled_out, ruled_out, story_of(program, history, ruled_out, "--rule-out"))
+        check_explanation(program, history, ruled_out, ruled_out, "--rule-out")
     return line, ruled_out
 
 

@@ -11,7 +11,9 @@ not from the program.
 """
 
 import datetime
+import gzip
 import pathlib
+import re
 import sys
 import tempfile
 
@@ -50,6 +52,11 @@ def at(time):
     return datetime.datetime.fromtimestamp(time / 1000, datetime.timezone.utc).strftime("%Y-%m-%dT%H:%M:%S.%f")[:-3] + "Z"
 
 
+def in_table(time):
+    """The same as the tables of a page have it, with its date."""
+    return at(time).replace("T", " ").rstrip("Z")
+
+
 # A get of an old version. Some lines say when they were written; what others say is no time.
 TIMED = (
     written(index(0, k=0), MADE) + created(0, 1, 0) + written(index(1), '"soon"') + written(updated(1, 1, 1), -1.5)
@@ -68,7 +75,32 @@ TEXTS = [
             f"(line 4) before call 2, a get, was made (line 5 at {at(MADE + 2_000)}).",
             f"  line 1 at {at(MADE)}, call 0: index k=0 -> line 2: created as 1/0\n",
         ],
-        {f"5 at {at(MADE + 2_000)}": range(2, 100), f"1 at {at(MADE)}": [1]},
+        {
+            f"5 at {at(MADE + 2_000)}": range(2, 100),
+            f"1 at {at(MADE)}": [1],
+            f'<td class="mono">5 at {in_table(MADE + 2_000)}</td>': [1],
+            f'<span class="when">line 6 at {in_table(MADE + 86_400_007)}</span>: k=0 at 1/0': [1],
+            f"<dt>written</dt><dd>{in_table(MADE)} to {in_table(MADE + 86_400_007)} (UTC)</dd>": [1],
+        },
+    ),
+    (
+        "lines that say who asked, and a note",
+        written(index(0, ',"client":"cart"'), MADE) + written(created(0, 1, 0), MADE + 1) + written(index(1, ',"client":"p\\u0061y"', k=2), MADE + 2)
+        + written(updated(1, 1, 1), MADE + 3) + written(get(2, ',"client":"cart","note":"node 2 is <back>"'), MADE + 4) + written(found(2, 1, 0), MADE + 5),
+        refuted("stale-get", "2,1", 5, 2),
+        [
+            f"\n  line 1 at {at(MADE)}, call 0 by cart: index k=1 -> line 2 at {at(MADE + 1)}: created as 1/0\n",
+            f"\n* line 3 at {at(MADE + 2)}, call 1 by pay: index k=2 -> line 4 at {at(MADE + 3)}: updated as 1/1\n",
+            f"\n  line 5 at {at(MADE + 4)}, note: node 2 is <back>\n! line 5 at {at(MADE + 4)}, call 2 by cart: get -> ",
+        ],
+        {
+            "<th>client</th>": [1],
+            f'<td class="mono">1 at {in_table(MADE)[11:]}</td><td class="mono">0</td><td class="mono">cart</td>': [1],
+            f'<tr class="note"><td>note</td><td class="mono">5 at {in_table(MADE + 4)[11:]}</td><td colspan="4">node 2 is &lt;back&gt;</td></tr>': [1],
+            '<g class="note" tabindex="0"><title>line 5: node 2 is &lt;back&gt;</title>': [1],
+            f"<dt>written</dt><dd>{in_table(MADE)[:10]}, {in_table(MADE)[11:]} to {in_table(MADE + 5)[11:]} (UTC)</dd>": [1],
+            "<dt>history</dt><dd>events: 6; calls: 3; documents: 1</dd>": [1],
+        },
     ),
     (
         "an id of markup",
@@ -83,10 +115,10 @@ TEXTS = [
         no_writer(1_001, 1_000),
         [
             "Earlier calls left out: 961.",
-            "  line 962, call 961: index k=1 -> no reply (open at the same time: 962, 963, 964, 965, 966, 967, 968, 969 and 31 more)\n",
+            "  line 962, call 961: index k=1 -> no reply (open at the same time: 962, 963, 964, 965, 966, 967, 968, 969 and 992 more)\n",
             "Left out: 960.",
         ],
-        {'<g class="bar': [12 + 200], '<g class="bar lost">': [11 + 199]},
+        {'<g class="bar': [1 + 200], '<g class="bar lost"': [199]},
     ),
     (
         "the end of a long order",
@@ -96,7 +128,7 @@ TEXTS = [
             "\n  line 1, call 0: index k=0 -> line 2: created as 1/0\n* line 3, call 1: index k=1 -> line 4: updated as 1/1\n! line 201,",
             "\n\nThe other calls, in the order of their events:\n  line 127, call 63: index k=63 -> line 128: updated as 1/63\n",
             "\nEarlier calls left out: 61.\n",
-            "\nEarlier calls in it: 60.\n  call 60: index k=60 -> 1/60 k=60\n",
+            "\nEarlier calls of this order, not shown: 60.\n  call 60: index k=60 -> 1/60 k=60\n",
             "\n  call 99: index k=99 -> 1/99 k=99\n",
         ],
         {},
@@ -114,6 +146,13 @@ NEEDED_TWICE = (
 # The search fails at a document of shard 0, and the evidence is a stale get of another one of shard 1.
 OTHER = ',"shard":1'
 TWO_DOCUMENTS = (
+    index(0, doc="a") + created(0, 1, 0) + delete(1, doc="a") + lost(1) + index(2, doc="a", k=2) + created(2, 1, 5)
+    + index(3, doc="a", k=3) + created(3, 1, 9)
+    + index(4, OTHER, "b", k=3) + created(4, 1, 0) + index(5, OTHER, "b", k=4) + updated(5, 1, 1) + get(6, OTHER, "b") + found(6, 1, 0, k=3)
+)
+
+# A conflict without a cause, and then a stale get of another document.
+CONFLICT_FIRST = (
     index(0, doc="a") + created(0, 1, 0) + index(1, doc="a", k=2) + conflict(1)
     + index(2, OTHER, "b", k=3) + created(2, 1, 0) + index(3, OTHER, "b", k=4) + updated(3, 1, 1) + get(4, OTHER, "b") + found(4, 1, 0, k=3)
 )
@@ -137,14 +176,25 @@ TEXTS += [
     (
         "evidence of another document",
         TWO_DOCUMENTS,
-        refuted("stale-get", "4,3", 3, 1),
+        refuted("stale-get", "6,5", 7, 3),
         [
             "\nThis is proved by evidence",
-            'The search failed first at "a", with the reply to call 1. The calls that prove it are of another document, "b" on shard 1;',
-            "Call 3 (index k=4) was answered with the version 1/1 (line 8) before call 4, a get, was made (line 9).",
-            'Of the document "a":\nCall 1 (index k=2, called in line 3) was answered with a conflict (line 4).',
+            'The search failed first at "a", with the reply to call 3. The calls that prove it are of another document, "b" on shard 1;',
+            "Call 5 (index k=4) was answered with the version 1/1 (line 12) before call 6, a get, was made (line 13).",
         ],
         {"<tr class=\"broken\">": [1], "<tr class=\"evidence\">": [2], "Of the document &quot;b&quot;": [0]},
+    ),
+    (
+        "evidence that is complete only with a later line",
+        CONFLICT_FIRST,
+        refuted("stale-get", "4,3", 3, 1),
+        [
+            "\nConflict without a cause: ",
+            "\nThis is proved, since the document is ruled out",
+            "\nCall 1 (index k=2, called in line 3) was answered with a conflict (line 4).",
+            "\nThe first line names call 4 (line 10) and call 3 (line 8). That is evidence too, but it is complete only with a line after the reply to call 1.",
+        ],
+        {"<tr class=\"broken\">": [1], "<tr class=\"evidence\">": [0]},
     ),
     (
         "a line that was written late",
@@ -190,12 +240,11 @@ RULED_OUT = [
             "Call 4 (index k=4 if at 1/3) was made after that (line 9), so it comes after it. "
             "It was answered with a conflict on 1/3 (line 10). So something must have replaced 1/3 before line 10.",
             "\n  line 5, call 2: index k=3 if at 1/0 -> no reply: it asks for another version, 1/0\n",
-            "\n  line 11, call 5: index k=5 -> no reply: it was called only after the reply to call 4 (line 10)\n",
             "\n* line 3, call 1: ",
             "\n! line 9, call 4: ",
         ],
         # The get is described and drawn below only, and so all are drawn twice; the last call comes after the reply.
-        {'<g class="bar evidence">': [2], '<g class="bar broken">': [2], '<tr class="evidence">': [1], "<svg": [2], "<details>": [1]},
+        {'<g class="bar evidence"': [2], '<g class="bar broken"': [2], '<tr class="evidence">': [1], "<svg": [2], "<details>": [1]},
     ),
     (
         "a document created where it was",
@@ -250,15 +299,15 @@ RULED_OUT = [
         {'<tr class="evidence">': [1]},
     ),
     (
-        "a conflict with what came later",
+        "a conflict before what came later",
         index(0) + created(0, 1, 0) + index(1, condition(1, 0), k=2) + conflict(1) + index(2, condition(1, 0), k=3) + updated(2, 1, 1),
-        (3, 1, 2),
+        (3, 1, 1, 2),
         [
             "\nCall 0 (index k=1) was answered with the version 1/0 (line 2), so the document had reached it by then. "
-            "Call 1 (index k=2 if at 1/0) was made after that (line 3) and was answered with a conflict on 1/0 (line 4), so the document was not at 1/0 by then: it had reached 1/1, at least. "
-            "Call 2 (index k=3 if at 1/0) was made after that (line 5), so it comes after it.",
+            "Call 1 (index k=2 if at 1/0) was made after that (line 3), so it comes after it. "
+            "It was answered with a conflict on 1/0 (line 4). So something must have replaced 1/0 before line 4.",
         ],
-        {'<tr class="evidence">': [2]},
+        {'<tr class="evidence">': [1]},
     ),
     (
         "a version that nobody can have written",
@@ -281,7 +330,6 @@ RULED_OUT = [
             "  line 7, call 3: delete -> no reply: it deletes, and a write of a number is needed\n"
             "  line 5, call 2: index k=8 -> no reply: it writes another number than was found\n"
             "  line 3, call 1: index k=9 if at 1/3 -> no reply: it asks for another version, 1/3\n"
-            "  line 11, call 5: index k=9 -> no reply: it was called only after the reply to call 4 (line 10)\n"
             "So no order ",
         ],
         {},
@@ -391,7 +439,7 @@ RULED_OUT = [
         "a write under a version above its own",
         index(0) + created(0, 1, 5) + index(1, condition(1, 7), k=3) + updated(1, 1, 6),
         (3, 1, 1),
-        ["It was to be performed only if the document is at 1/7, and a write that replaces 1/7 gets a newer version than it. This one got none that is newer."],
+        ["It was to be performed only if the document is at 1/7, and a write that replaces 1/7 gets a newer version. This one did not."],
         {},
     ),
     (
@@ -435,7 +483,7 @@ HEADLINES = {
     "a get that missed a document that was there": NOT_SEEN,
     "a chain: a lost delete, a get that missed it, and a create that met it": CONFLICT,
     "a write under the version of a delete": UNMET,
-    "a conflict with what came later": TAKEN_BACK,
+    "a conflict before what came later": CONFLICT,
     "a version that nobody can have written": UNWRITTEN_VERSION,
     "a version that none of the writes without a reply can have made": UNWRITTEN_VALUE,
     "a version whose writer was called after a later one": UNWRITTEN_VERSION,
@@ -471,7 +519,10 @@ EVIDENT = [
         "a stale get, after which the version isn't shown again",
         index(0) + created(0, 1, 0) + index(1) + updated(1, 1, 1) + get(2) + found(2, 1, 0) + get(3) + found(3, 1, 0),
         f'{STALE} (call 2 of "d", line 6).',
-        ["\nNo call that was made after the reply to call 2 shows the version 1/1 again, "],
+        [
+            "\nNo call that was made after the reply to call 2 shows the version 1/1 again, ",
+            "\nAcknowledged writes that are never seen again: 1 (documents: 1; versions: 1/1 to 1/1; lines of their replies: 4 to 4). ",
+        ],
     ),
     (
         "a stale get with times",
@@ -495,7 +546,7 @@ EVIDENT = [
         "one version for two writes of a document",
         index(0) + created(0, 1, 0) + index(1, k=2) + updated(1, 1, 0),
         f'{TWICE} (call 1 of "d", line 4).',
-        ["\nBoth lines name one document: make sure that both are of one index, "],
+        ["\nBoth lines name one document: make sure that both are in one index, "],
     ),
     (
         "a condition that was not looked at",
@@ -506,10 +557,12 @@ EVIDENT = [
     (
         "a get of what a write asked for that was answered with a conflict",
         index(0) + created(0, 1, 0) + index(1, condition(1, 0), k=4) + conflict(1) + get(2) + found(2, 1, 1, k=4),
-        'Read of something nobody wrote: a get returned what no recorded write can have written (call 2 of "d", line 6).',
+        'Conflict without a cause: a write was answered with a conflict though no condition of it was unmet (call 1 of "d", line 4).',
         [
+            "\nThe first line names call 2 (line 6). That is evidence too, but it is complete only with a line after the reply to call 1.",
             "\nDid a conflict hide a write? Call 1 (index k=4 if at 1/0) was answered with a conflict (line 4), and call 2 shows k=4 at 1/1 (line 6), ",
             "`casbench explain --conflicts maybe FILE`",
+            "\nWith `--conflicts maybe` this history gets: yes docs=1 calls=3 left_out=0\n",
         ],
     ),
     (
@@ -536,7 +589,7 @@ COVERAGE = [
         [
             "\n  calls that overlapped another call of their document: 0 of 2\n",
             "\n  gets that were answered: 1\n",
-            "\n  writes under a condition, creates among them: 0 performed, 0 answered with a conflict\n",
+            "\n  conditional writes, creates included: 0 performed, 0 answered with a conflict\n",
             "\n  primary terms seen: 1\n",
             '\n  documents with the most calls: "d" with 2\n',
             NOTHING_OVERLAPS,
@@ -550,7 +603,7 @@ COVERAGE = [
         + index(3, condition(1, 0), k=3) + conflict(3) + index(4, k=4) + lost(4),
         [
             "\n  calls that overlapped another call of their document: 2 of 5\n",
-            "\n  writes under a condition, creates among them: 2 performed, 1 answered with a conflict\n",
+            "\n  conditional writes, creates included: 2 performed, 1 answered with a conflict\n",
             "\n  writes without a reply: 1\n",
             "\n  primary terms seen: 1 to 2\n",
         ],
@@ -611,11 +664,12 @@ class Stories(ProgramTest):
         self.assertEqual(places, sorted(places))
 
     def check_reason(self, headline, text, place, parts, counts):
-        event, number, stop = place
+        # the line names the call that the whole history has no place for, an explanation the first one
+        event, number, stop, *named = place
         first = "The replies contradict one another: no order of the calls explains them.\nThis is proved, "
         plain, page = self.story_of(text)
         ruled_out, _ = self.story_of(text, "--rule-out")
-        for story, line, more in ((plain, no(event, number), "though"), (ruled_out, refuted("ruled-out", stop, event, number), "since")):
+        for story, line, more in ((plain, no(event, number), "though"), (ruled_out, refuted("ruled-out", [*named, stop][0], event, number), "since")):
             self.assertEqual(story[: len(line)], line)
             title, _, rest = story[len(line) :].lstrip("\n").partition("\n")
             self.assertEqual(rest[: len(first + more)], first + more)
@@ -624,6 +678,7 @@ class Stories(ProgramTest):
         for part in [*parts, f"\nSo no order has a place for call {stop} and its reply. This is proved", "\nThe calls that matter, "]:
             self.assertIn(part, plain)
         reasons = [it[it.index("\nWhy no order can have these replies:\n") :] for it in (plain, ruled_out)]
+        reasons[1] = re.sub(r"\nThe first line names [^\n]*", "", reasons[1]) if named else reasons[1]
         self.assertEqual(*reasons)
         self.check_counts(page, counts)
 
@@ -661,12 +716,30 @@ class Stories(ProgramTest):
             self.assertIn(part, story)
         for part in absent:
             self.assertNotIn(part, story)
-        made_with = " with --conflicts plain" if text else ""
-        self.assertIn(f"<p>Made by casbench 0.1.0{made_with}.</p>", page)
+        reading = "--conflicts plain " if text else ""
+        self.assertIn(f"<dt>options</dt><dd>{reading}--workers 1</dd>", page)
+        self.assertIn("<dt>program</dt><dd>casbench 0.1.0</dd>", page)
 
     def test_coverage(self):
         """The story of a history that has an order says what the recording is able to show."""
         self.run_subtests(self.check_coverage, COVERAGE)
+
+    def check_refused(self, text, part, absent):
+        story, _ = self.story_of(text)
+        self.assertEqual(story[:8], "refused ")
+        self.assertIn(part, story)
+        self.assertNotIn(absent, story)
+
+    def test_refused(self):
+        """The story of a refused text says what to do if it was compressed or cut off."""
+        one = get(0) + missing(0)
+        rows = [
+            ("a compressed text", gzip.compress(one.encode()), "compressed by gzip: `zcat FILE | casbench check`", "head"),
+            ("a last line that was cut off", one + get(1)[:20], "`head -n 2 FILE | casbench check`", "zcat"),
+            ("two lines in one", one + get(1)[:20] + get(2), "two lines may have been written into one", "head"),
+            ("a first line that was cut off", get(0)[:20], "it may have been cut off", "head"),
+        ]
+        self.run_subtests(self.check_refused, rows)
 
 
 if __name__ == "__main__":

@@ -37,8 +37,8 @@ def create(n, more="", doc="d", k=1):
     return call(n, "create", f',"k":{k}{more}', doc)
 
 
-def delete(n, more=""):
-    return call(n, "delete", more)
+def delete(n, more="", doc="d"):
+    return call(n, "delete", more, doc)
 
 
 def get(n, more="", doc="d"):

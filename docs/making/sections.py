@@ -20,6 +20,7 @@ SECTIONS = (
             "report/specs/Explained.antt",
             "report/specs/Findings.antt",
             "report/specs/Workers.antt",
+            "report/specs/Calls.antt",
             "page/specs/Pages.antt",
             "page/specs/Markups.antt",
             "report/specs/Bulk.antt",
@@ -119,6 +120,7 @@ SECTIONS = (
         "What else is written and read",
         "",
         (
+            "api_lines/specs/Objects.antt",
             "api_lines/specs/Written.antt",
             "events/specs/Keys.antt",
             "history/specs/Written.antt",

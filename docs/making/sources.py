@@ -314,7 +314,7 @@ class Reader:
         for part in reversed(self.parts):
             if isinstance(part, Definition):
                 code = " ".join(it for it in self.lines[part.start : end] if not it.lstrip().startswith("--"))
-                part, end = part._replace(words=frozenset(re.findall(r"[^\s(){},;⟦⟧.]+(?![^\s(){},;⟦⟧])", code))), part.start
+                part, end = part._replace(words=frozenset(re.findall(r"[^\s(){},;⟦⟧.]+(?=\.top\b|[\s(){},;⟦⟧]|$)", code))), part.start
             parts.insert(0, part)
         return tuple(parts)
 

@@ -1,8 +1,8 @@
 /* Refuses one growth: the allocation of the number in REFUSE, counted from 1, gets no memory, and the file named in
-   TOLD is made. Preload it:
+   REPORT is made. Preload it:
 
        cc -O2 -shared -fPIC -o refuse_growth.so refuse_growth.c
-       REFUSE=5 TOLD=refused LD_PRELOAD=./refuse_growth.so casbench check history.ndjson
+       REFUSE=5 REPORT=refused LD_PRELOAD=./refuse_growth.so casbench check history.ndjson
 */
 #include <errno.h>
 #include <fcntl.h>
@@ -18,12 +18,12 @@ extern void *__libc_memalign(size_t align, size_t size);
 
 static atomic_ulong seen;
 static unsigned long refused;
-static const char *told;
+static const char *report;
 
 __attribute__((constructor)) static void start(void) {
     const char *number = getenv("REFUSE");
     refused = number ? strtoul(number, NULL, 10) : 0;
-    told = getenv("TOLD");
+    report = getenv("REPORT");
     atomic_store(&seen, 0);
 }
 
@@ -31,8 +31,8 @@ __attribute__((constructor)) static void start(void) {
 static int is_refused(void) {
     if (atomic_fetch_add(&seen, 1) + 1 != refused)
         return 0;
-    if (told)
-        close(open(told, O_WRONLY | O_CREAT, 0600));
+    if (report)
+        close(open(report, O_WRONLY | O_CREAT, 0600));
     errno = ENOMEM;
     return 1;
 }

@@ -3,10 +3,9 @@
 
     python3 refuse_growths.py [PROGRAM]
 
-PROGRAM is the built casbench; where it is not named, the one that the gate builds. The runs below are made with the first
-allocation refused, with the second, and so on, until a run asks for no more. Where `rt test` or the gate has built the
-test programs of some crates, the tests named below are run so too. It asks for a C compiler, cc, and says so where there is
-none. Its last line counts the runs and tests that were right with each growth refused.
+PROGRAM is the built casbench; if it isn't named, the one that the gate builds. The runs below are made with the first
+allocation refused, with the second, and so on, until a run asks for no more. It needs a C compiler, cc, and says so if
+there is none. Its last line counts the runs that were right with each growth refused.
 """
 
 import os
@@ -17,10 +16,9 @@ import tempfile
 from concurrent.futures import ThreadPoolExecutor
 
 HERE = os.path.dirname(os.path.realpath(__file__))
-CRATES = os.path.join(os.path.dirname(os.path.dirname(HERE)), "crates")
-PROGRAM = os.path.join(CRATES, "casbench", "out", "casbench")
+PROGRAM = os.path.join(os.path.dirname(os.path.dirname(HERE)), "crates", "casbench", "out", "casbench")
 
-# The words of a run, its status and its line.
+# The arguments of a run, its status and its line.
 RUNS = [
     ("check index-then-get.ndjson", 0, "yes docs=1 calls=2 left_out=0\n"),
     ("check lost-write-explains-conflict.ndjson", 0, "yes docs=1 calls=3 left_out=0\n"),
@@ -34,19 +32,8 @@ RUNS = [
     ("run --seed 1 --clients 1 --calls 20 --docs 2 --copies 3 --fault none", 0, None),
 ]
 
-# What the program says where there is no memory.
+# What the program says if it is out of memory.
 NO_MEMORY = (3, b"", b"casbench: no memory\n")
-
-# What a test may fail for: want of memory, or that its own writer, a list, was refused it.
-WANTS = (b"NoMemory", b"AllocError", b"AllocFailed", b"no memory", b"error: Write")
-
-# Tests by their crates: recordings, a group, a run.
-TESTS = [
-    ("recorder", "recorder::tests::pens_meet"),
-    ("recorder", "clock_recorder::tests::pens_meet"),
-    ("repl_group_tests", "tests::group_core::core_promotes"),
-    ("report_tests", "tests::recorded_run::one_call_run"),
-]
 
 
 class Refusing:
@@ -59,13 +46,13 @@ class Refusing:
         subprocess.run(["cc", "-O2", "-shared", "-fPIC", "-o", self.library, source], check=True)
 
     def run(self, words, number):
-        """Runs the words; tells the status, both outputs, and whether an allocation of that number was asked for."""
-        told = os.path.join(self.folder, f"told-{os.getpid()}-{id(words)}-{number}")
-        where = {**os.environ, "LD_PRELOAD": self.library, "REFUSE": str(number), "TOLD": told}
-        ran = subprocess.run(words, env=where, cwd=HERE, capture_output=True, timeout=60)
-        was_refused = os.path.exists(told)
+        """Runs the words; returns the status, both outputs, and whether an allocation of that number was asked for."""
+        report = os.path.join(self.folder, f"report-{os.getpid()}-{id(words)}-{number}")
+        environment = {**os.environ, "LD_PRELOAD": self.library, "REFUSE": str(number), "REPORT": report}
+        ran = subprocess.run(words, env=environment, cwd=HERE, capture_output=True, timeout=60)
+        was_refused = os.path.exists(report)
         if was_refused:
-            os.remove(told)
+            os.remove(report)
         return (ran.returncode, ran.stdout, ran.stderr), was_refused
 
 
@@ -90,15 +77,6 @@ def tried_run(refusing, program, words, status, line):
     return each_refused(refusing, words, lambda answer: answer in (ample, NO_MEMORY))
 
 
-def tried_test(refusing, program, name):
-    """Tries a test: it passes, or it fails for want of memory."""
-    is_right = lambda answer: answer[0] == 0 or any(it in answer[1] + answer[2] for it in WANTS)
-    ample, _ = refusing.run([program, name], 0)
-    if ample[0] != 0:
-        return 0, ample
-    return each_refused(refusing, [program, name], is_right)
-
-
 def main():
     if not shutil.which("cc"):
         print("there is no C compiler here, cc, so no growth was refused")
@@ -108,10 +86,6 @@ def main():
     with tempfile.TemporaryDirectory() as folder, ThreadPoolExecutor(os.cpu_count()) as pool:
         refusing = Refusing(folder)
         tried = [(words, pool.submit(tried_run, refusing, program, words, status, line)) for words, status, line in RUNS]
-        for crate, name in TESTS:
-            built = os.path.join(CRATES, crate, "out", f"{crate}_tests")
-            if os.path.exists(built):
-                tried.append((f"{crate} {name}", pool.submit(tried_test, refusing, built, name)))
         wrong = 0
         for what, result in tried:
             count, answer = result.result()

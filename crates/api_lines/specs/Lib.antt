@@ -8,6 +8,7 @@ pub mod Kinds
 pub mod Pairs
 pub mod ReplyTable
 pub mod Ids
+pub mod Objects
 pub mod Written
 pub mod Laws
 pub mod aids

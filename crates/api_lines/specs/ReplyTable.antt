@@ -37,7 +37,7 @@ pub record ReportsWrite (wanted : ℕ) (result_text : List ℕ) (status : ℕ) (
   pub pair : CarriesPair body p
 
 -- a version conflict: the status 409, and an `error` whose `type` is `version_conflict_engine_exception`
--- Source: OpenSearch.
+-- Source: OpenSearch, optimistic concurrency control.
 pub record ReportsConflict (status : ℕ) (body : Data) : Type 0 where
   pub has_status : status ≡ 409
   pub error : (e : Data) × (get (codes "error") body ≡ Some e) × HasText (codes "type") (codes "version_conflict_engine_exception") e

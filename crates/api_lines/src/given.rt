@@ -49,29 +49,11 @@ fn is_given(number: u64, line: &[u8]) -> bool
     number <= MOST_LINES && line.len() <= LONGEST_LINE && !is_blank(line)
 }
 
-/// Returns whether `quick_fields` gives the fields of the line of a text with this number, from 1. If it
-/// does, they are put in `fields`. Nothing is said of another line, nor of `fields` after it: it may be
-/// blank, or refused, or have a value of another form. For it, ask `given_unescaped_fields` or `given_line`.
-pub fn given_fields<'v>(number: u64, line: &'v [u8], fields: &mut LineFields<'v>) -> bool
-    // `fields` has none yet.
-    requires { line_seen fields.old ≡ line_values null }
-    // If the result is true, the line is taken with some value, and `fields` are the fields of this value.
-    ensures { IsTrue result → ((v : Data)
-        × (line_given number line.now ≡ Ok (Some v))
-        × (line_seen fields.new ≡ line_values v)) }
-{
-    if !is_given(number, line) {
-        return false;
-    }
-    match str::from_utf8(line) {
-        Ok(text) => quick_fields(text, fields),
-        Err(_) => false,
-    }
-}
-
-/// Does the same as `given_fields` by `unescaped_fields`, in a borrowed room. If memory is refused the result
-/// is false.
-pub fn given_unescaped_fields<'v>(
+/// Returns whether the fields of the line of a text with this number, from 1, are found without a tree of
+/// values: by `quick_fields`, or else by `unescaped_fields` in a borrowed room. If they are, they are put in
+/// `fields`. Nothing is said of another line, nor of `fields` after it: it may be blank, or refused, or have
+/// a value of another form, or memory was refused. For it, ask `given_line`.
+pub fn given_fields<'v>(
     number: u64,
     line: &'v [u8],
     room: &'v mut LineRoom,
@@ -87,8 +69,12 @@ pub fn given_unescaped_fields<'v>(
     if !is_given(number, line) {
         return false;
     }
-    match str::from_utf8(line) {
-        Ok(text) => unescaped_fields(text, room, fields),
-        Err(_) => false,
+    let Ok(text) = str::from_utf8(line) else {
+        return false;
+    };
+    if quick_fields(text, fields) {
+        return true;
     }
+    *fields = LineFields::absent();
+    unescaped_fields(text, room, fields)
 }

@@ -1,4 +1,5 @@
-//! The keys of a line, distinguished by their first bytes.
+//! The keys of a line, distinguished by their first bytes. They are patterns, since the loop in which
+//! `strip_prefix` compares isn't unrolled, and every member of every line comes by here.
 ghost use Rattle.std.specs.Prelude.{◌≡◌, ◌∷◌, ◌++◌, IfSome, not, true};
 ghost use Rattle.std.specs.List.{list_all};
 ghost use Rattle.api_lines.specs.aids.Keys.{key_text};

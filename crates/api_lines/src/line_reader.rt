@@ -74,7 +74,7 @@ pub fn take_text<L: LineReader>(reader: &mut L, text: &[u8]) -> Result<(), ReadF
 // Checks whether the bytes continue after the greatest number of lines that a text may have. If they do, the
 // line there is refused. None of it is taken; it comes with the part that is at hand, in place of what `line`
 // had.
-fn end_of_lines<R: Read>(
+fn refuse_line_past_limit<R: Read>(
     input: &mut R,
     chunk: &mut Chunk,
     mut line: Vec<u8>,
@@ -146,5 +146,5 @@ pub fn take_lines<L: LineReader, R: Read>(
             Err(ReadFault::NoMemory) => return Err(InputFault::NoMemory),
         }
     }
-    end_of_lines(input, &mut chunk, line)
+    refuse_line_past_limit(input, &mut chunk, line)
 }

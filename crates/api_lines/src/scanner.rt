@@ -1,7 +1,7 @@
 //! The tokens of a line, read a byte at a time. Only lines are taken whose texts have no escape and no byte
 //! outside ASCII, and whose numbers are digits alone. Spaces may be around values, but not between a key and
 //! its colon. Anything else is left to the tokens of `json`.
-ghost use Rattle.std.specs.Prelude.{◌≡◌, ◌<◌, ◌∷◌, ◌++◌, ℕ, [], IfSome, List, MatchOption, OnSome, Some, length, not, option_map, take, true};
+ghost use Rattle.std.specs.Prelude.{◌≡◌, ◌<◌, ◌∷◌, ◌++◌, ℕ, [], IfSome, List, MatchOption, None as Nothing, OnSome, Some, length, not, option_map, take, true};
 ghost use Rattle.std.specs.Bool.{MatchBool};
 ghost use Rattle.std.specs.List.{list_all};
 ghost use Rattle.json.specs.Json.{after_end_array, read_key};
@@ -219,92 +219,44 @@ impl<'a> Scanner<'a> {
         self.place = Place::Fresh;
     }
 
+    // Moves to these bytes after a value, and passes the comma if it is next.
+    #[inline(always)]
+    fn pass_comma(&mut self, rest: &'a [u8])
+        ensures { tokens_left self.new ≡ tokens_at after_value rest.now }
+    {
+        match after(rest, b',') {
+            Some(next) => {
+                self.rest = after_spaces(next);
+                self.place = Place::AfterComma;
+            }
+            None => {
+                self.rest = rest;
+                self.place = Place::AfterValue;
+            }
+        }
+    }
+
     // Moves to these bytes after a value, and passes the comma that may be next.
     #[inline(always)]
     fn end_value(&mut self, rest: &'a [u8])
         ensures { tokens_left self.new ≡ tokens_at after_value rest.now }
     {
-        let rest = after_spaces(rest);
-        match after(rest, b',') {
-            Some(next) => {
-                self.rest = after_spaces(next);
-                self.place = Place::AfterComma;
-            }
-            None => {
-                self.rest = rest;
-                self.place = Place::AfterValue;
-            }
-        }
+        self.pass_comma(after_spaces(rest));
     }
 
-    // Moves past a value that must end here: at a comma or at a closing bracket.
+    // Moves past a value if it ends here: at a comma or at a closing bracket. Otherwise nothing changes.
     #[inline(always)]
     fn end_scalar(&mut self, rest: &'a [u8]) -> Option<()>
         ensures ended { OnSome result (EndsValue rest.now) }
         ensures left { OnSome result (tokens_left self.new ≡ tokens_at after_value rest.now) }
+        ensures kept { result ≡ Nothing → tokens_left self.new ≡ tokens_left self.old }
     {
-        if !is_ended(after_spaces(rest)) {
+        let next = after_spaces(rest);
+        if !is_ended(next) {
             return None;
         }
-        self.end_value(rest);
+        self.pass_comma(next);
         Some(())
-    }
-
-    // Moves past a value if a comma or a closing bracket is next, as is most often the case. Otherwise
-    // nothing changes.
-    #[inline(always)]
-    fn end_usual(&mut self, rest: &'a [u8]) -> bool
-        ensures { MatchBool result
-            (EndsValue rest.now × (tokens_left self.new ≡ tokens_at after_value rest.now))
-            (tokens_left self.new ≡ tokens_left self.old) }
-    {
-        if !is_ended(rest) {
-            return false;
-        }
-        match after(rest, b',') {
-            Some(next) => {
-                self.rest = after_spaces(next);
-                self.place = Place::AfterComma;
-            }
-            None => {
-                self.rest = rest;
-                self.place = Place::AfterValue;
-            }
-        }
-        true
-    }
-
-    /// Takes a text directly after which a comma or a closing bracket comes. If it takes none, the same
-    /// tokens are left.
-    #[inline(always)]
-    pub fn usual_text(&mut self) -> Option<&'a str>
-        ensures { MatchOption result (tokens_left self.new ≡ tokens_left self.old)
-            (λ s. tokens_left self.old ≡ string s.now ∷ tokens_left self.new) }
-    {
-        let quoted = after(self.beginning()?, b'"')?;
-        let (text, rest) = plain_text(quoted)?;
-        if self.end_usual(rest) {
-            Some(text)
-        } else {
-            None
-        }
-    }
-
-    /// Takes a whole number directly after which a comma or a closing bracket comes. If it takes none, the
-    /// same tokens are left.
-    #[inline(always)]
-    pub fn usual_whole(&mut self) -> Option<u64>
-        ensures { MatchOption result (tokens_left self.new ≡ tokens_left self.old)
-            (λ n. (ds : List ℕ)
-            × (tokens_left self.old ≡ number ds ∷ tokens_left self.new)
-            × (number_of ds ≡ Some (unsigned n))) }
-    {
-        let (number, rest) = digits(self.beginning()?)?;
-        if self.end_usual(rest) {
-            Some(number)
-        } else {
-            None
-        }
     }
 
     // The remaining bytes, if a value or a key may begin there.
@@ -395,10 +347,11 @@ impl<'a> Scanner<'a> {
         }
     }
 
-    /// Takes a text.
+    /// Takes a text. If it takes none, the same tokens are left.
     #[inline(always)]
     pub fn text(&mut self) -> Option<&'a str>
-        ensures { IfSome result (λ s. tokens_left self.old ≡ string s.now ∷ tokens_left self.new) }
+        ensures { MatchOption result (tokens_left self.new ≡ tokens_left self.old)
+            (λ s. tokens_left self.old ≡ string s.now ∷ tokens_left self.new) }
     {
         let quoted = after(self.beginning()?, b'"')?;
         let (text, rest) = plain_text(quoted)?;
@@ -406,10 +359,11 @@ impl<'a> Scanner<'a> {
         Some(text)
     }
 
-    /// Takes a whole number.
+    /// Takes a whole number. If it takes none, the same tokens are left.
     #[inline(always)]
     pub fn whole(&mut self) -> Option<u64>
-        ensures { IfSome result (λ n. (ds : List ℕ)
+        ensures { MatchOption result (tokens_left self.new ≡ tokens_left self.old)
+            (λ n. (ds : List ℕ)
             × (tokens_left self.old ≡ number ds ∷ tokens_left self.new)
             × (number_of ds ≡ Some (unsigned n))) }
     {

@@ -104,7 +104,7 @@ fn text_field<'a>(scanner: &mut Scanner<'a>, depth: usize, found: &mut Field<'a>
     ensures shorter { OnSome result
         (length (tokens_left scanner.new) < length (tokens_left scanner.old)) }
 {
-    match scanner.usual_text() {
+    match scanner.text() {
         Some(text) => {
             *found = Field::Text(text);
             Some(())
@@ -122,7 +122,7 @@ fn number_field<'a>(scanner: &mut Scanner<'a>, depth: usize, found: &mut Field<'
     ensures shorter { OnSome result
         (length (tokens_left scanner.new) < length (tokens_left scanner.old)) }
 {
-    match scanner.usual_whole() {
+    match scanner.whole() {
         Some(number) => {
             *found = Field::Whole(number);
             Some(())

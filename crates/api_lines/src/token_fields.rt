@@ -4,9 +4,9 @@ ghost use Rattle.json.specs.Token.{Token, begin_object};
 ghost use Rattle.serde_json.specs.Data.{Data, Members, null, object};
 ghost use Rattle.serde_json.specs.Read.{read as read_text};
 ghost use Rattle.api_lines.specs.Fields.{body_seen, body_values, line_seen, line_values, value_of};
-ghost use Rattle.api_lines.specs.Json.{field as field_of_value};
+ghost use Rattle.api_lines.specs.Json.{field as field_of_value, field_value};
 ghost use Rattle.api_lines.specs.aids.Keys.{key_text};
-ghost use Rattle.api_lines.specs.aids.MoreFields.{body_with, line_with};
+ghost use Rattle.api_lines.specs.aids.MoreFields.{body_with, line_with, rare_field_put};
 ghost use Rattle.api_lines.specs.aids.Tokens.{BeginsWithMembers, BeginsWithValue};
 
 use crate::field::Field;
@@ -93,6 +93,23 @@ impl<'v> BodyFields<'v> {
 }
 
 impl<'v> LineFields<'v> {
+    // Takes the member of this name, whose value is next: a part of a condition, a shard, a status, or a field
+    // that isn't one of the line.
+    fn take_rare<T: TokenReader<'v>>(&mut self, name: &str, tokens: &mut T) -> Option<()>
+        ensures read { OnSome result ((d : Data)
+            × BeginsWithValue IN_LINE (T.left tokens.old) d (T.left tokens.new)
+            × (line_seen self.new ≡ rare_field_put name.now (field_value (Some d)) (line_seen self.old))) }
+        ensures shorter { OnSome result (length (T.left tokens.new) < length (T.left tokens.old)) }
+    {
+        match name {
+            "if_seq_no" => tokens.field(IN_LINE, &mut self.if_seq_no),
+            "if_primary_term" => tokens.field(IN_LINE, &mut self.if_primary_term),
+            "shard" => tokens.field(IN_LINE, &mut self.shard),
+            "status" => tokens.field(IN_LINE, &mut self.status),
+            _ => pass(tokens, IN_LINE),
+        }
+    }
+
     // Takes the member of this name, whose value is next.
     fn take_named<T: TokenReader<'v>>(&mut self, name: &str, tokens: &mut T) -> Option<()>
         ensures read { OnSome result ((d : Data)
@@ -106,12 +123,8 @@ impl<'v> LineFields<'v> {
             "id" => tokens.field(IN_LINE, &mut self.id),
             "op" => tokens.field(IN_LINE, &mut self.op),
             "k" => tokens.field(IN_LINE, &mut self.k),
-            "if_seq_no" => tokens.field(IN_LINE, &mut self.if_seq_no),
-            "if_primary_term" => tokens.field(IN_LINE, &mut self.if_primary_term),
-            "shard" => tokens.field(IN_LINE, &mut self.shard),
-            "status" => tokens.field(IN_LINE, &mut self.status),
             "body" => self.body.take(tokens),
-            _ => pass(tokens, IN_LINE),
+            _ => self.take_rare(name, tokens),
         }
     }
 

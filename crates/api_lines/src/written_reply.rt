@@ -1,45 +1,61 @@
 ghost use Rattle.std.specs.Prelude.{◌≡◌, IfOk, codes, if◌then◌else◌};
+ghost use Rattle.serde_json.specs.Data.{no_members};
 ghost use Rattle.serde_json.specs.View.{view};
-ghost use Rattle.api_lines.specs.Written.{conflict_body as body_of_conflict, found_body as body_of_found, missing_body as body_of_missing, write_body as body_of_write, written_body as body_written, written_status as status_written};
+ghost use Rattle.api_lines.specs.Objects.{members_of};
+ghost use Rattle.api_lines.specs.Written.{conflict_body as body_of_conflict, found_body as body_of_found, id_and_pair, missing_body as body_of_missing, write_body as body_of_write, written_body as body_written, written_status as status_written};
 
+use crate::line_object::LineObject;
 use doc_register::Reply;
-use serde_json::{Value, json};
+use serde_json::Value;
 use std::alloc::Global;
 use version_pair::{DocId, NoMemory, Pair};
+
+// The id of a document and a pair, as members.
+fn with_id_and_pair(alloc: Global, id: &DocId, pair: Pair) -> Result<LineObject, NoMemory>
+    ensures { IfOk result (λ made. members_of made ≡ id_and_pair id.now pair no_members) }
+{
+    LineObject::new(alloc)
+        .text("_id", id.as_str())?
+        .number("_primary_term", pair.term())?
+        .number("_seq_no", pair.seq())
+}
 
 // The body of a performed write.
 fn write_body(alloc: Global, id: &DocId, pair: Pair, outcome: &str) -> Result<Value, NoMemory>
     ensures { IfOk result (λ body. view body ≡ body_of_write id.now pair outcome.now) }
 {
-    let name = id.as_str();
-    let term = pair.term();
-    let seq = pair.seq();
-    json!(in alloc; {"_id": name, "_primary_term": term, "_seq_no": seq, "result": outcome})
+    let body = with_id_and_pair(alloc, id, pair)?.text("result", outcome)?;
+    Ok(body.into_value())
 }
 
 // The body of a document that exists.
 fn found_body(alloc: Global, id: &DocId, pair: Pair, k: u64) -> Result<Value, NoMemory>
     ensures { IfOk result (λ body. view body ≡ body_of_found id.now pair k) }
 {
-    let name = id.as_str();
-    let term = pair.term();
-    let seq = pair.seq();
-    json!(in alloc; {"_id": name, "_primary_term": term, "_seq_no": seq, "_source": {"k": k}, "found": true})
+    let source = LineObject::new(alloc).number("k", k)?;
+    let body = with_id_and_pair(alloc, id, pair)?
+        .with("_source", source.into_value())?
+        .with("found", Value::Bool(true))?;
+    Ok(body.into_value())
 }
 
 // The body of a document that is missing.
 fn missing_body(alloc: Global, id: &DocId) -> Result<Value, NoMemory>
     ensures { IfOk result (λ body. view body ≡ body_of_missing id.now) }
 {
-    let name = id.as_str();
-    json!(in alloc; {"_id": name, "found": false})
+    let body = LineObject::new(alloc)
+        .text("_id", id.as_str())?
+        .with("found", Value::Bool(false))?;
+    Ok(body.into_value())
 }
 
 // The body of a conflict.
 fn conflict_body(alloc: Global) -> Result<Value, NoMemory>
     ensures { IfOk result (λ body. view body ≡ body_of_conflict) }
 {
-    json!(in alloc; {"error": {"type": "version_conflict_engine_exception"}})
+    let error = LineObject::new(alloc).text("type", "version_conflict_engine_exception")?;
+    let body = LineObject::new(alloc).with("error", error.into_value())?;
+    Ok(body.into_value())
 }
 
 // The status of a reply.

@@ -1,5 +1,7 @@
 -- What is written of several texts that are checked.
-use Rattle.std.specs.Prelude.{◌≡◌, ℕ, List, [], ◌∷◌, ◌++◌, Option, IfSome, codes}
+use Rattle.std.specs.Prelude.{◌≡◌, ℕ, List, [], ◌∷◌, ◌++◌, Option, IfSome, codes, map, take}
+use Rattle.std.specs.Io.KnownBytes.{Appends}
+use Rattle.std.specs.List.{All, flat_map}
 use Rattle.casbench.specs.Exit.{greater_outcome}
 use Rattle.casbench.specs.Outcomes.{IsJudged, status_of}
 use Rattle.casbench.specs.declared.named_text.NamedText.{NamedText}
@@ -32,12 +34,33 @@ pub record AnswersOne (ruling : RulingOut) (conflicts : Conflicts) (least : ℕ)
   -- a yes is about fewer calls than are asked for just if the outcome is `TooFew`
   pub judged : IfSome text.1 (λ input. IsJudged least input outcome)
 
+-- A text that was checked: what it is, what the check came to, and the line that is written of it.
+-- Source: profile.
+pub record CheckedText : Type 0 where
+  pub text : Named
+  pub outcome : Outcome
+  pub line : List ℕ
+
+-- the outcome with the greatest exit status among one and those of texts, the first of them that has it
+unfoldable pub greatest_from : Outcome → List CheckedText → Outcome
+greatest_from outcome [] = outcome
+greatest_from outcome (c ∷ cs) = greatest_from (greater_outcome outcome c.outcome) cs
+
 -- What is written of several texts, and what it comes to.
 -- Source: profile.
-pub data AnswersEach (ruling : RulingOut) (conflicts : Conflicts) (least : ℕ) : List Named → Outcome → List ℕ → Type 0 where
-  -- of no text nothing is written
-  nothing : AnswersEach ruling conflicts least [] (Answered Yes) []
-  -- of one more its line is added, and the outcome with the greater exit status counts
-  one_more : {texts : List Named} {before : Outcome} {lines : List ℕ} {text : Named} {outcome : Outcome} {line : List ℕ}
-      → AnswersEach ruling conflicts least texts before lines → AnswersOne ruling conflicts least text outcome line
-      → AnswersEach ruling conflicts least (texts ++ text ∷ []) (greater_outcome before outcome) (lines ++ line)
+pub record AnswersEach (ruling : RulingOut) (conflicts : Conflicts) (least : ℕ) (texts : List Named) (outcome : Outcome) (written : List ℕ) : Type 0 where
+  pub checked : List CheckedText
+  -- each of the texts was checked, in their order
+  pub each : texts ≡ map (λ c. c.text) checked
+  -- the line of each answers its bytes (`AnswersOne`)
+  pub answered : All (λ c. AnswersOne ruling conflicts least c.text c.outcome c.line) checked
+  -- the lines are written in this order
+  pub lines : written ≡ flat_map (λ c. c.line) checked
+  -- the outcome is that with the greatest exit status; of no text it is yes
+  pub greatest : outcome ≡ greatest_from (Answered Yes) checked
+
+-- the writer holds, after what it held, a prefix of what is written of the texts, which may be empty, or all of it
+-- Source: profile.
+abbrev pub IsCutOffEach : RulingOut → Conflicts → ℕ → List Named → Option (List ℕ) → Option (List ℕ) → Type 0
+IsCutOffEach ruling conflicts least texts old new =
+    (outcome : Outcome) × (written : List ℕ) × (n : ℕ) × Appends old new (take n written) × AnswersEach ruling conflicts least texts outcome written

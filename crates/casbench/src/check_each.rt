@@ -1,17 +1,16 @@
-ghost use Rattle.std.specs.Prelude.{◌≡◌, ◌≢◌, ◌≤◌, ◌++◌, IfErr, IfOk, OnErr, codes, map};
+ghost use Rattle.std.specs.Prelude.{◌≡◌, ◌≢◌, ◌++◌, IfErr, IfOk, IsErrOf, codes, map};
 ghost use Rattle.std.specs.Io.KnownBytes.{Keeps};
-ghost use Rattle.casbench.specs.Each.{AnswersEach, AnswersOne, named_of};
-ghost use Rattle.stream_io.specs.Faults.{IsCheckFault, IsWorkedFault};
+ghost use Rattle.casbench.specs.Each.{AnswersEach, AnswersOne, IsCutOffEach, named_of};
+ghost use Rattle.report.specs.Workers.{AreWorkers};
+ghost use Rattle.stream_io.specs.Faults.{IsCheckFault, IsReadingFault, IsStreamFault, IsWorkedFault};
 ghost use Rattle.stream_io.specs.Written.{HasAnswer};
 
-use crate::checked::check_text;
 use crate::exit::greater;
 use crate::named_text::NamedText;
 use crate::notes::{note_calls, note_if_compressed};
 use crate::outcome::{Outcome, outcome_of};
-use doc_register::Conflicts;
 use events::HashKeys;
-use report::{RulingOut, Status, StreamFault};
+use report::{CheckOptions, Status, StreamFault, check_text};
 use std::alloc::{AllocError, Global};
 use std::io::{Read, Write};
 use std::rt::Files;
@@ -37,27 +36,17 @@ fn check_named<F: Files + Eprint, T: Threads + Wait + Sync, S: Read + Drop>(
     alloc: Global,
     keys: HashKeys,
     text: NamedText<'_, S>,
-    workers: usize,
-    conflicts: Conflicts,
-    ruling_out: RulingOut,
+    options: CheckOptions,
     at_least: u64,
 ) -> Result<(Outcome, Vec<u8>), StreamFault>
-    requires some { 1 ≤ workers }
-    requires few { workers ≤ 16 }
-    ensures answered { IfOk result (λ made. AnswersOne ruling_out conflicts at_least (named_of S.remaining text.entry)
+    requires workers { AreWorkers options.workers }
+    ensures answered { IfOk result (λ made. AnswersOne options.ruling_out options.conflicts at_least (named_of S.remaining text.entry)
         made.0 made.1.items) }
     ensures reported { IfErr result IsCheckFault }
+    ensures alone { options.workers ≡ 1 → IfErr result IsReadingFault }
 {
     let NamedText { name, mut source } = text;
-    let found = check_text(
-        threads,
-        alloc,
-        keys,
-        &mut source,
-        workers,
-        conflicts,
-        ruling_out,
-    )?;
+    let found = check_text(threads, alloc, keys, &mut source, options)?;
     let line = named_line(alloc, name, &found.answer.text)?;
     note_calls(rt, alloc, Some(name), found.calls, at_least);
     if found.answer.status == Status::Refused {
@@ -73,23 +62,19 @@ fn check_in_turn<F: Files + Eprint, T: Threads + Wait + Sync, S: Read + Drop>(
     alloc: Global,
     keys: HashKeys,
     texts: Vec<NamedText<'_, S>>,
-    workers: usize,
-    conflicts: Conflicts,
-    ruling_out: RulingOut,
+    options: CheckOptions,
     at_least: u64,
 ) -> Result<(Outcome, Vec<u8>), StreamFault>
-    requires some { 1 ≤ workers }
-    requires few { workers ≤ 16 }
-    ensures answered { IfOk result (λ made. AnswersEach ruling_out conflicts at_least (map (named_of S.remaining) texts.entry.items)
+    requires workers { AreWorkers options.workers }
+    ensures answered { IfOk result (λ made. AnswersEach options.ruling_out options.conflicts at_least (map (named_of S.remaining) texts.entry.items)
         made.0 made.1.items) }
     ensures reported { IfErr result IsCheckFault }
+    ensures alone { options.workers ≡ 1 → IfErr result IsReadingFault }
 {
     let mut outcome = Outcome::Answered(Status::Yes);
     let mut lines = Vec::new(alloc);
     for text in texts {
-        let (next, line) = check_named(
-            rt, threads, alloc, keys, text, workers, conflicts, ruling_out, at_least,
-        )?;
+        let (next, line) = check_named(rt, threads, alloc, keys, text, options, at_least)?;
         outcome = greater(outcome, next);
         lines.extend_from_slice(&line)?;
     }
@@ -109,26 +94,27 @@ pub fn check_each<F: Files + Eprint, T: Threads + Wait + Sync, S: Read + Drop, W
     keys: HashKeys,
     texts: Vec<NamedText<'_, S>>,
     writer: &mut W,
-    workers: usize,
-    conflicts: Conflicts,
-    ruling_out: RulingOut,
+    options: CheckOptions,
     at_least: u64,
 ) -> Result<Outcome, StreamFault>
-    // `some`, `few`: There are 1 to 16 workers.
-    requires some { 1 ≤ workers }
-    requires few { workers ≤ 16 }
+    // There are 1 to 16 workers.
+    requires workers { AreWorkers options.workers }
     // The writer holds the lines after what it held, and they answer the bytes of the texts, in their order.
-    ensures answered { IfOk result (λ outcome. HasAnswer (AnswersEach ruling_out conflicts at_least (map (named_of S.remaining) texts.entry.items) outcome)
+    ensures answered { IfOk result (λ outcome. HasAnswer (AnswersEach options.ruling_out options.conflicts at_least (map (named_of S.remaining) texts.entry.items) outcome)
         (W.contents writer.old) (W.contents writer.new)) }
-    // After any error but `Write` the writer holds what it held.
+    // After `Write` the writer holds a prefix of such lines after what it held.
+    ensures cut_off { IsErrOf result StreamFault.Write
+        → IsCutOffEach options.ruling_out options.conflicts at_least (map (named_of S.remaining) texts.entry.items)
+        (W.contents writer.old) (W.contents writer.new) }
+    // After any other error the writer holds what it held.
     ensures kept { IfErr result (λ fault. fault ≢ StreamFault.Write
         → Keeps (W.contents writer.old) (W.contents writer.new)) }
     // The only errors are `Read`, `Write`, `NoMemory` and `Worker`.
     ensures reported { IfErr result IsWorkedFault }
+    // With one worker, the caller's thread, the error is never `Worker`.
+    ensures alone { options.workers ≡ 1 → IfErr result IsStreamFault }
 {
-    let (outcome, lines) = check_in_turn(
-        rt, threads, alloc, keys, texts, workers, conflicts, ruling_out, at_least,
-    )?;
+    let (outcome, lines) = check_in_turn(rt, threads, alloc, keys, texts, options, at_least)?;
     write_text(writer, &lines)?;
     Ok(outcome)
 }

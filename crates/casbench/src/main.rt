@@ -9,7 +9,6 @@
 
 mod check;
 mod check_each;
-mod checked;
 mod exit;
 mod files;
 mod named_text;

@@ -1,5 +1,6 @@
 ghost use Rattle.std.specs.Prelude.{◌≡◌, ℕ, List};
-ghost use Rattle.casbench.specs.Outcomes.{CountsCalls, IsJudged, status_of};
+ghost use Rattle.casbench.specs.Outcomes.{IsJudged, status_of};
+ghost use Rattle.report.specs.Calls.{CountsCalls};
 
 use report::Status;
 

@@ -5,6 +5,7 @@ ghost use Rattle.doc_register.specs.declared.state.Conflicts.{Conflicts as Readi
 ghost use Rattle.evidence.specs.declared.ruling_out.RulingOut.{RulingOut as Ruling};
 ghost use Rattle.report.specs.Explained.{ExplainsInput};
 ghost use Rattle.report.specs.Verdict.{IsAnswered, IsCutOff, WitnessesInput};
+ghost use Rattle.report.specs.Workers.{AreWorkers};
 ghost use Rattle.recorded_runs.specs.Runs.{IsRunText, IsTextInTurns};
 ghost use Rattle.recorded_runs.specs.declared.manner.Manner.{Manner as Going};
 ghost use Rattle.recorded_runs.specs.declared.run_setting.RunSetting.{RunSetting as Setting};
@@ -12,6 +13,7 @@ ghost use Rattle.seed_search.specs.Found.{IsFoundText, IsSearched};
 ghost use Rattle.recorded_runs.specs.declared.seeds.Seeds.{Seeds as Range};
 ghost use Rattle.disturbances.specs.declared.disturbance.Disturbance.{Disturbance as Way};
 ghost use Rattle.casbench.specs.Faults.{MayFail};
+ghost use Rattle.command_line.specs.declared.page_request.PageRequest.{PageRequest as Page};
 ghost use Rattle.casbench.specs.Input.{names_input};
 ghost use Rattle.casbench.specs.Outcomes.{IsAnswerWith, IsJudged, status_of};
 ghost use Rattle.stream_io.specs.Faults.{IsWorkedFault};
@@ -19,18 +21,18 @@ ghost use Rattle.stream_io.specs.Written.{HasAnswer, HasPrefix};
 
 use crate::check::check;
 use crate::check_each::check_each;
-use crate::files::{open_both, open_each, open_or};
+use crate::files::{INPUT, open_both, open_each, open_or};
 use crate::outcome::Outcome;
 use crate::page_file::{ReadyPage, refuse_history};
 use crate::search_reporter::SearchReporter;
-use command_line::Request;
+use command_line::{PageRequest, Request};
 use disturbances::DisturbedGroup;
 use doc_register::Conflicts;
 use events::HashKeys;
 use recorded_runs::{Playing, run_played_stream};
 use report::{
-    RulingOut, Status, StreamFault, bulk_stream, explain_stream, explained_page, verify_stream,
-    witness_stream, write_answer,
+    CheckOptions, PageOptions, RulingOut, Status, StreamFault, View, bulk_stream, explain_stream,
+    explained_page, verify_stream, witness_stream, write_answer,
 };
 use seed_search::search_stream;
 use std::alloc::Global;
@@ -40,54 +42,68 @@ use std::sync::Wait;
 use std::thread::Threads;
 use workload::Target;
 
-// Returns a number of workers from 1 to 16: the nearest one if the number is another, which no arguments
-// give.
-fn worker_count(workers: u64) -> usize
-    ensures some { 1 ≤ result }
-    ensures few { result ≤ 16 }
+// Returns the options of a check. The number of workers is the nearest one from 1 to 16 if it is another,
+// which no arguments give.
+fn options_of(workers: u64, conflicts: Conflicts, ruling_out: RulingOut) -> CheckOptions
+    ensures workers { AreWorkers result.workers }
+    ensures conflicts { result.conflicts ≡ conflicts }
+    ensures ruling_out { result.ruling_out ≡ ruling_out }
 {
-    if workers < 1 {
-        1
-    } else if workers > 16 {
-        16
-    } else {
-        workers as usize
+    CheckOptions {
+        workers: workers.clamp(1, 16) as usize,
+        conflicts,
+        ruling_out,
     }
 }
 
-// Checks a history and reports what was found; on a page too, if one is named, which takes its place when the
-// answer is written.
+// Returns what the page shows beside the explanation.
+fn page_options<'a>(file: Option<&'a str>, page: PageRequest<'a>) -> PageOptions<'a> {
+    PageOptions {
+        file: file.filter(|name| *name != INPUT),
+        view: page.drawn.map(|drawn| View {
+            document: drawn.document,
+            first: drawn.lines.first,
+            last: drawn.lines.last,
+        }),
+    }
+}
+
+// Checks a history and reports what was found; on a page too, if one is asked for, which takes its place when the
+// answer is written. `file` is the name of the history's file, if it has one.
 fn explain<F: Files + Eprint, T: Threads + Wait + Sync, R: Read, W: Write>(
     rt: &F,
     threads: &T,
     alloc: Global,
     keys: HashKeys,
+    file: Option<&str>,
     history: &mut R,
     writer: &mut W,
-    page: Option<&str>,
-    workers: usize,
-    conflicts: Conflicts,
-    ruling_out: RulingOut,
+    page: Option<PageRequest<'_>>,
+    options: CheckOptions,
 ) -> Result<Status, StreamFault>
-    requires some { 1 ≤ workers }
-    requires few { workers ≤ 16 }
-    ensures explained { IfOk result (λ status. HasAnswer (ExplainsInput ruling_out conflicts (R.remaining history.old) status)
+    requires workers { AreWorkers options.workers }
+    ensures explained { IfOk result (λ status. HasAnswer (ExplainsInput options.ruling_out options.conflicts (R.remaining history.old) status)
         (W.contents writer.old) (W.contents writer.new)) }
     ensures cut_off { IsErrOf result StreamFault.Write
-        → HasPrefix (ExplainsInput ruling_out conflicts (R.remaining history.old)) (W.contents writer.old)
+        → HasPrefix (ExplainsInput options.ruling_out options.conflicts (R.remaining history.old)) (W.contents writer.old)
         (W.contents writer.new) ⊎ Keeps (W.contents writer.old) (W.contents writer.new) }
     ensures kept { IfErr result (λ fault. fault ≢ StreamFault.Write
         → Keeps (W.contents writer.old) (W.contents writer.new)) }
     ensures reported { IfErr result IsWorkedFault }
 {
-    let Some(path) = page else {
+    let Some(page) = page else {
+        let CheckOptions {
+            workers,
+            conflicts,
+            ruling_out,
+        } = options;
         return explain_stream(
             threads, alloc, keys, history, writer, workers, conflicts, ruling_out,
         );
     };
-    let (answer, page) = explained_page(
-        threads, alloc, keys, history, workers, conflicts, ruling_out,
-    )?;
+    let path = page.path;
+    let shown = page_options(file, page);
+    let (answer, page) = explained_page(threads, alloc, keys, history, options, shown)?;
     let ready = ReadyPage::new(rt, alloc, path, &page)?;
     match write_answer(writer, &answer) {
         Ok(status) => {
@@ -143,7 +159,7 @@ pub fn run<R: Files + Eprint, T: Threads + Wait + Sync, I: Read + Drop, W: Write
         → IfOk result (IsAnswerWith (λ status. HasAnswer (WitnessesInput ruling conflicts (I.remaining input) status)
         (W.contents writer.old) (W.contents writer.new))) }
     // A check of the input that is explained begins with its answer, whether a page is written too or not.
-    ensures explained { (file : Option (Bor (List ℕ))) (conflicts : Reading) (workers : ℕ) (ruling : Ruling) (page : Option (Bor (List ℕ)))
+    ensures explained { (file : Option (Bor (List ℕ))) (conflicts : Reading) (workers : ℕ) (ruling : Ruling) (page : Option Page)
         → request.now ≡ Request.Explain file conflicts workers ruling page
         → names_input (option_map (λ t. t.now) file) ≡ true
         → IfOk result (IsAnswerWith (λ status. HasAnswer (ExplainsInput ruling conflicts (I.remaining input) status)
@@ -174,7 +190,7 @@ pub fn run<R: Files + Eprint, T: Threads + Wait + Sync, I: Read + Drop, W: Write
         → IsErrOf result StreamFault.Write
         → HasPrefix (WitnessesInput ruling conflicts (I.remaining input)) (W.contents writer.old)
         (W.contents writer.new) }
-    ensures explain_cut_off { (file : Option (Bor (List ℕ))) (conflicts : Reading) (workers : ℕ) (ruling : Ruling) (page : Option (Bor (List ℕ)))
+    ensures explain_cut_off { (file : Option (Bor (List ℕ))) (conflicts : Reading) (workers : ℕ) (ruling : Ruling) (page : Option Page)
         → request.now ≡ Request.Explain file conflicts workers ruling page
         → names_input (option_map (λ t. t.now) file) ≡ true → IsErrOf result StreamFault.Write
         → HasPrefix (ExplainsInput ruling conflicts (I.remaining input)) (W.contents writer.old) (W.contents writer.new)
@@ -212,9 +228,7 @@ pub fn run<R: Files + Eprint, T: Threads + Wait + Sync, I: Read + Drop, W: Write
                 file,
                 &mut history,
                 writer,
-                worker_count(workers),
-                conflicts,
-                ruling_out,
+                options_of(workers, conflicts, ruling_out),
                 at_least,
             )
         }
@@ -233,9 +247,7 @@ pub fn run<R: Files + Eprint, T: Threads + Wait + Sync, I: Read + Drop, W: Write
                 keys,
                 texts,
                 writer,
-                worker_count(workers),
-                conflicts,
-                ruling_out,
+                options_of(workers, conflicts, ruling_out),
                 at_least,
             )
         }
@@ -287,18 +299,17 @@ pub fn run<R: Files + Eprint, T: Threads + Wait + Sync, I: Read + Drop, W: Write
             page,
         } => {
             let mut history = open_or(rt, file, input)?;
-            refuse_history(rt, page, &history)?;
+            refuse_history(rt, page.map(|page| page.path), &history)?;
             let status = explain(
                 rt,
                 threads,
                 alloc,
                 keys,
+                file,
                 &mut history,
                 writer,
                 page,
-                worker_count(workers),
-                conflicts,
-                ruling_out,
+                options_of(workers, conflicts, ruling_out),
             )?;
             Ok(Outcome::Answered(status))
         }

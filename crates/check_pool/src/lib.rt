@@ -18,6 +18,3 @@ pub use doc_job::DocJob;
 pub use gate::{Gate, NoGate};
 pub use pool::{answers, check_workers};
 pub use pool_fault::PoolFault;
-
-#[cfg(test)]
-mod tests;

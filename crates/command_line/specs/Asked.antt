@@ -21,8 +21,22 @@ use Rattle.recorded_runs.specs.declared.manner.Playing.{Playing}
 use Rattle.recorded_runs.specs.declared.manner.Playing.TheVariants.{OnThreads, InTurns}
 use Rattle.recorded_runs.specs.declared.run_setting.RunSetting.{RunSetting}
 use Rattle.recorded_runs.specs.Range.{seeds_between}
+use Rattle.command_line.specs.declared.page_request.Drawn.{Drawn}
+use Rattle.command_line.specs.declared.page_request.PageRequest.{PageRequest}
 use Rattle.command_line.specs.declared.request.Request.{Request}
 use Rattle.command_line.specs.declared.request.Request.TheVariants as request
+
+-- A document that is drawn: its id, and the first and the last of the lines on which the calls are.
+-- Source: profile.
+pub record AskedDrawing : Type 0 where
+  pub document : Text
+  pub lines : ℕ × ℕ
+
+-- A page: its file, and the document that is drawn on it, if one is.
+-- Source: profile.
+pub record AskedPage : Type 0 where
+  pub path : Text
+  pub drawn : Option AskedDrawing
 
 -- What is asked for.
 -- Source: profile.
@@ -44,9 +58,16 @@ pub data Asked : Type 0 where
   -- runs in turns from the first seed to the last, with a setting, under a disturbance, until one is found
   -- for which no order was found
   ToSearch : ℕ → ℕ → RunSetting → Disturbance → Asked
-  -- a check that is explained, with what a check has but the least number of calls, and with a file for the
-  -- page or none
-  ToExplain : Option Text → Conflicts → ℕ → RulingOut → Option Text → Asked
+  -- a check that is explained, with what a check has but the least number of calls, and with a page or none
+  ToExplain : Option Text → Conflicts → ℕ → RulingOut → Option AskedPage → Asked
+
+-- the document that is drawn, as the code has it
+abbrev pub drawing_asked : Drawn → AskedDrawing
+drawing_asked drawn = record { document = drawn.document.now; lines = (drawn.lines.first, drawn.lines.last) }
+
+-- the page, as the code has it
+abbrev pub page_asked : PageRequest → AskedPage
+page_asked page = record { path = page.path.now; drawn = option_map drawing_asked page.drawn }
 
 -- the same as the code has it
 abbrev pub asked_by : Request → Asked
@@ -57,7 +78,7 @@ asked_by (request.Verify history witness conflicts) = ToVerify history.now witne
 asked_by (request.Bulk body reply first) = ToWriteBulk body.now reply.now first
 asked_by (request.Run setting manner) = ToRun setting manner
 asked_by (request.Search seeds setting disturbance) = ToSearch seeds.first seeds.last setting disturbance
-asked_by (request.Explain file conflicts workers ruling page) = ToExplain (option_map (λ f. f.now) file) conflicts workers ruling (option_map (λ t. t.now) page)
+asked_by (request.Explain file conflicts workers ruling page) = ToExplain (option_map (λ f. f.now) file) conflicts workers ruling (option_map page_asked page)
 
 -- the reading of conflicts of this name, `plain` or `maybe`; the plain one if no name is given; nothing of
 -- another name
@@ -108,11 +129,53 @@ checked_of files rows =
 abbrev pub check_of : List Row → Option Asked
 check_of rows = checked_of (texts_of (codes "history") rows) rows
 
--- the same for a check that is explained, without a least number, and with the file of the page
+-- the number that is given; none if none is given or the text is no number
+abbrev pub number_given : Option Text → Option ℕ
+number_given None = None
+number_given (Some text) = number_or 0 (Some text)
+
+-- a minus sign
+-- Source: profile.
+abbrev pub is_minus : ℕ → Bool
+is_minus c = c == 45
+
+-- The numbers of a text A-B: on both sides of the first minus sign are numbers below 2^64, and the first is not
+-- above the last.
+-- Source: profile.
+abbrev pub range_named : Text → Option (ℕ × ℕ)
+range_named text =
+    if nat_lt (position_or_len is_minus text) (length text)
+    then option_and_then (λ first. option_and_then (λ last. seeds_between first last) (number_given (Some (after_first is_minus text)))) (number_given (Some (before_first is_minus text)))
+    else None
+
+-- all lines of a text
+abbrev pub all_lines : ℕ × ℕ
+all_lines = (1, 18446744073709551615)
+
+-- a page on which these lines of a document are drawn
+abbrev pub page_by : Text → Text → ℕ × ℕ → AskedPage
+page_by path document lines = record { path = path; drawn = Some (record { document = document; lines = lines }) }
+
+-- The page by the texts of `--html`, `--document` and `--lines`: none if none of them is given; nothing if a
+-- document is named without a page, or lines without a document, or if they are no two numbers A-B. Without
+-- lines all are drawn.
+-- Source: profile.
+abbrev pub pages_of : Option Text → Option Text → Option Text → Option (Option AskedPage)
+pages_of None None None = Some None
+pages_of (Some path) None None = Some (Some (record { path = path; drawn = None }))
+pages_of (Some path) (Some document) None = Some (Some (page_by path document all_lines))
+pages_of (Some path) (Some document) (Some lines) = option_map (λ named. Some (page_by path document named)) (range_named lines)
+pages_of _ _ _ = None
+
+-- the page that arguments ask for, or none
+abbrev pub page_of : List Row → Option (Option AskedPage)
+page_of rows = pages_of (first_of (codes "html") rows) (first_of (codes "document") rows) (first_of (codes "lines") rows)
+
+-- the same for a check that is explained, without a least number, and with the page
 abbrev pub explain_of : List Row → Option Asked
 explain_of rows =
-    option_and_then (λ conflicts. option_map (λ n. ToExplain (first_of (codes "history") rows) conflicts n (ruling_given (first_of (codes "rule-out") rows)) (first_of (codes "html") rows))
-    (number_or 1 (first_of (codes "workers") rows))) (conflicts_named (first_of (codes "conflicts") rows))
+    option_and_then (λ conflicts. option_and_then (λ n. option_map (λ page. ToExplain (first_of (codes "history") rows) conflicts n (ruling_given (first_of (codes "rule-out") rows)) page)
+    (page_of rows)) (number_or 1 (first_of (codes "workers") rows))) (conflicts_named (first_of (codes "conflicts") rows))
 
 -- the witness that arguments ask for; nothing if the name of the reading is unknown
 abbrev pub witness_of : List Row → Option Asked
@@ -131,11 +194,6 @@ verify_of rows =
 abbrev pub bulk_of : List Row → Option Asked
 bulk_of rows =
     option_and_then (λ body. option_and_then (λ reply. option_map (λ n. ToWriteBulk body reply n) (number_or 0 (first_of (codes "first") rows))) (first_of (codes "reply") rows)) (first_of (codes "body") rows)
-
--- the number that is given; none if none is given or the text is no number
-abbrev pub number_given : Option Text → Option ℕ
-number_given None = None
-number_given (Some text) = number_or 0 (Some text)
 
 -- the number that is given, if it is below 2^32; none if none is
 abbrev pub small_given : Option Text → Option ℕ
@@ -181,20 +239,6 @@ abbrev pub manner_given : List Row → Option Manner
 manner_given rows =
     option_map (λ d. record { playing = playing_given (first_of (codes "in-turns") rows); disturbance = d }) (disturbance_named (first_of (codes "disturb") rows))
 
--- a minus sign
--- Source: profile.
-abbrev pub is_minus : ℕ → Bool
-is_minus c = c == 45
-
--- The seeds of a text A-B: on both sides of the first minus sign are numbers below 2^64, and the first is not
--- above the last.
--- Source: profile.
-abbrev pub seeds_named : Text → Option (ℕ × ℕ)
-seeds_named text =
-    if nat_lt (position_or_len is_minus text) (length text)
-    then option_and_then (λ first. option_and_then (λ last. seeds_between first last) (number_given (Some (after_first is_minus text)))) (number_given (Some (before_first is_minus text)))
-    else None
-
 -- one run with that seed and the setting, in the manner of the arguments
 abbrev pub one_run_of : Option Text → List Row → Option Asked
 one_run_of seed rows = option_and_then (λ setting. option_map (λ manner. ToRun setting manner) (manner_given rows)) (setting_given (number_given seed) rows)
@@ -211,7 +255,7 @@ search_among seeds rows =
 -- Source: profile.
 abbrev pub search_of : Text → Text → List Row → Option Asked
 search_of until seeds rows =
-    if bytes_eq until (codes "refuted") then option_and_then (λ named. search_among named rows) (seeds_named seeds) else None
+    if bytes_eq until (codes "refuted") then option_and_then (λ named. search_among named rows) (range_named seeds) else None
 
 -- One run if neither what is searched for nor seeds are given; a search if both are, and no seed; otherwise
 -- nothing.
@@ -229,8 +273,8 @@ run_of rows = runs_of (first_of (codes "seed") rows) (first_of (codes "until") r
 -- what the command of this name asks for, given what its arguments have: `check`, `witness`, `verify`,
 -- `bulk`, `run` or `explain`; nothing of another name
 -- Source: profile.
-abbrev pub asked_of_command : Text → List Row → Option Asked
-asked_of_command name rows =
+abbrev pub request_of_command : Text → List Row → Option Asked
+request_of_command name rows =
     if bytes_eq name (codes "check") then check_of rows
     else (if bytes_eq name (codes "witness") then witness_of rows
     else (if bytes_eq name (codes "verify") then verify_of rows
@@ -242,7 +286,7 @@ asked_of_command name rows =
 -- Source: profile.
 abbrev pub asked_of : Option (Text × List Row) → Option Asked
 asked_of None = Some (ToCheck None Plain 1 Off 0)
-asked_of (Some command) = asked_of_command command.0 command.1
+asked_of (Some command) = request_of_command command.0 command.1
 
 -- ---- the command line
 
@@ -283,8 +327,8 @@ at_least_rule = record (option_rule (codes "at-least")) { parser = Some (parser.
 
 -- `--rule-out`, without a value
 -- Source: profile.
-abbrev pub rule_out_rule : Rule
-rule_out_rule = record (new_rule (codes "rule-out")) { long = Some (codes "rule-out"); action = Some SetTrue }
+abbrev pub rule_out_argument : Rule
+rule_out_argument = record (new_rule (codes "rule-out")) { long = Some (codes "rule-out"); action = Some SetTrue }
 
 -- a required number below 2^32, of this name
 -- Source: profile.
@@ -309,34 +353,36 @@ in_turns_rule = record (new_rule (codes "in-turns")) { long = Some (codes "in-tu
 -- a command with what each check takes: an argument of what is checked, `--conflicts`, `--workers`, from 1 to
 -- 16, and `--rule-out`
 -- Source: profile.
-abbrev pub searched_line : App → Rule → App
-searched_line command texts = with_rule (with_rule (with_rule (with_rule command texts) (option_rule (codes "conflicts"))) workers_rule) rule_out_rule
+abbrev pub searched_command : App → Rule → App
+searched_command command texts = with_rule (with_rule (with_rule (with_rule command texts) (option_rule (codes "conflicts"))) workers_rule) rule_out_argument
 
 -- the command `check`, which takes histories, which may be left out, what each check takes, and `--at-least`
 -- Source: profile.
-abbrev pub check_line : App
-check_line = with_rule (searched_line (new_app (codes "check")) (files_rule (codes "history"))) at_least_rule
+abbrev pub check_command : App
+check_command = with_rule (searched_command (new_app (codes "check")) (files_rule (codes "history"))) at_least_rule
 
--- the command `explain`, which takes a history, which may be left out, what each check takes, and `--html`
+-- the command `explain`, which takes a history, which may be left out, what each check takes, `--html`,
+-- `--document` and `--lines`
 -- Source: profile.
-abbrev pub explain_line : App
-explain_line = with_rule (searched_line (new_app (codes "explain")) (file_rule (codes "history"))) (option_rule (codes "html"))
+abbrev pub explain_command : App
+explain_command =
+    with_rule (with_rule (with_rule (searched_command (new_app (codes "explain")) (file_rule (codes "history"))) (option_rule (codes "html"))) (option_rule (codes "document"))) (option_rule (codes "lines"))
 
 -- the command `witness`, which takes a history, which may be left out, `--conflicts` and `--rule-out`
 -- Source: profile.
-abbrev pub witness_line : App
-witness_line = with_rule (with_rule (with_rule (new_app (codes "witness")) (file_rule (codes "history"))) (option_rule (codes "conflicts"))) rule_out_rule
+abbrev pub witness_command : App
+witness_command = with_rule (with_rule (with_rule (new_app (codes "witness")) (file_rule (codes "history"))) (option_rule (codes "conflicts"))) rule_out_argument
 
 -- the command `verify`, which takes a history and a witness, both required, and `--conflicts`
 -- Source: profile.
-abbrev pub verify_line : App
-verify_line =
+abbrev pub verify_command : App
+verify_command =
     with_rule (with_rule (with_rule (new_app (codes "verify")) (needed_rule (codes "history"))) (needed_rule (codes "witness"))) (option_rule (codes "conflicts"))
 
 -- the command `bulk`, which takes a body and a reply, both required, and `--first`
 -- Source: profile.
-abbrev pub bulk_line : App
-bulk_line = with_rule (with_rule (with_rule (new_app (codes "bulk")) (needed_rule (codes "body"))) (needed_rule (codes "reply"))) first_rule
+abbrev pub bulk_command : App
+bulk_command = with_rule (with_rule (with_rule (new_app (codes "bulk")) (needed_rule (codes "body"))) (needed_rule (codes "reply"))) first_rule
 
 -- the command `run` with the arguments that say what the clients do: `--seed`, `--clients` and `--calls`
 -- Source: profile.
@@ -355,8 +401,8 @@ manner_line = with_rule (with_rule group_line in_turns_rule) (option_rule (codes
 
 -- the same with those of the seeds that are tried: `--until` and `--seeds`
 -- Source: profile.
-abbrev pub run_line : App
-run_line = with_rule (with_rule manner_line (option_rule (codes "until"))) (option_rule (codes "seeds"))
+abbrev pub run_command : App
+run_command = with_rule (with_rule manner_line (option_rule (codes "until"))) (option_rule (codes "seeds"))
 
 -- `casbench`, which has a version
 -- Source: profile.
@@ -367,8 +413,8 @@ named_line = on_top (λ s. record s { has_version = true }) (new_app (codes "cas
 -- Source: profile.
 abbrev pub command_line : App
 command_line =
-    with_subcommand (with_subcommand (with_subcommand (with_subcommand (with_subcommand (with_subcommand named_line check_line.top) witness_line.top) verify_line.top) bulk_line.top)
-    run_line.top) explain_line.top
+    with_subcommand (with_subcommand (with_subcommand (with_subcommand (with_subcommand (with_subcommand named_line check_command.top) witness_command.top) verify_command.top) bulk_command.top)
+    run_command.top) explain_command.top
 
 -- what the arguments ask for, the first of which is the program's name
 -- Source: profile.

@@ -1,6 +1,6 @@
 ghost use Rattle.std.specs.Prelude.{◌≡◌, false, codes};
 ghost use Rattle.clap.specs.Words.{rule_of};
-ghost use Rattle.command_line.specs.Asked.{at_least_rule, fault_rule, file_rule, files_rule, first_rule, in_turns_rule, needed_rule, option_rule, rule_out_rule, seed_rule, small_rule, workers_rule};
+ghost use Rattle.command_line.specs.Asked.{at_least_rule, fault_rule, file_rule, files_rule, first_rule, in_turns_rule, needed_rule, option_rule, rule_out_argument, seed_rule, small_rule, workers_rule};
 
 use clap::builder::ValueParser;
 use clap::{Arg, ArgAction};
@@ -32,6 +32,12 @@ pub const AT_LEAST: &str = "at-least";
 
 /// The file of a page.
 pub const HTML: &str = "html";
+
+/// The id of the document that is drawn.
+pub const DOCUMENT: &str = "document";
+
+/// The lines of its calls that are drawn.
+pub const LINES: &str = "lines";
 
 /// The witness text.
 pub const WITNESS: &str = "witness";
@@ -146,7 +152,7 @@ pub fn at_least<'a>(alloc: Global) -> Arg<'a>
 
 /// Returns the option that has documents checked for being ruled out.
 pub fn rule_out<'a>(alloc: Global) -> Arg<'a>
-    ensures rule { rule_of result ≡ rule_out_rule }
+    ensures rule { rule_of result ≡ rule_out_argument }
     ensures local { result.global ≡ false }
 {
     Arg::new(alloc, RULE_OUT)

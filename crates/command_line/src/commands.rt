@@ -1,13 +1,13 @@
 ghost use Rattle.std.specs.Prelude.{◌≡◌, false, IfOk, codes};
 ghost use Rattle.clap.specs.Words.{app_of, new_app, rule_of, with_rule};
 ghost use Rattle.clap.specs.declared.builder.command.Command.TheViews.{out-Command as fields_of};
-ghost use Rattle.command_line.specs.Asked.{bulk_line, check_line, command_line, explain_line, group_line, manner_line, named_line, plan_line, run_line, searched_line, verify_line, witness_line};
+ghost use Rattle.command_line.specs.Asked.{bulk_command, check_command, command_line, explain_command, group_line, manner_line, named_line, plan_line, run_command, searched_command, verify_command, witness_command};
 
 use crate::arguments;
 use crate::arguments::{
-    BODY, CALLS, CLIENTS, COPIES, DISTURB, DOCS, HISTORY, HTML, REPLY, SEEDS, UNTIL, at_least,
-    conflicts, fault, first, histories, history, in_turns, needed_file, option, rule_out, seed,
-    small, workers,
+    BODY, CALLS, CLIENTS, COPIES, DISTURB, DOCS, DOCUMENT, HISTORY, HTML, LINES, REPLY, SEEDS,
+    UNTIL, at_least, conflicts, fault, first, histories, history, in_turns, needed_file, option,
+    rule_out, seed, small, workers,
 };
 use clap::{Arg, Command};
 use std::alloc::{AllocError, Global};
@@ -46,7 +46,7 @@ fn searched_command<'a>(
     texts: Arg<'a>,
 ) -> Result<Command<'a>, AllocError>
     requires { texts.global ≡ false }
-    ensures line { IfOk result (λ searched. app_of searched ≡ searched_line (app_of command.entry) (rule_of texts.entry)) }
+    ensures line { IfOk result (λ searched. app_of searched ≡ searched_command (app_of command.entry) (rule_of texts.entry)) }
     ensures local { IfOk result (λ searched. (fields_of searched).has_globals ≡ (fields_of command.entry).has_globals) }
 {
     let command = with_argument(command, texts)?;
@@ -56,7 +56,7 @@ fn searched_command<'a>(
 }
 
 fn check_command<'a>(alloc: Global) -> Result<Command<'a>, AllocError>
-    ensures line { IfOk result (λ command. app_of command ≡ check_line) }
+    ensures line { IfOk result (λ command. app_of command ≡ check_command) }
     ensures local { IfOk result (λ command. (fields_of command).has_globals ≡ false) }
 {
     let command = Command::new(alloc, CHECK)
@@ -69,7 +69,7 @@ fn check_command<'a>(alloc: Global) -> Result<Command<'a>, AllocError>
 }
 
 fn witness_command<'a>(alloc: Global) -> Result<Command<'a>, AllocError>
-    ensures line { IfOk result (λ command. app_of command ≡ witness_line) }
+    ensures line { IfOk result (λ command. app_of command ≡ witness_command) }
     ensures local { IfOk result (λ command. (fields_of command).has_globals ≡ false) }
 {
     let command = Command::new(alloc, WITNESS)
@@ -81,7 +81,7 @@ fn witness_command<'a>(alloc: Global) -> Result<Command<'a>, AllocError>
 }
 
 fn verify_command<'a>(alloc: Global) -> Result<Command<'a>, AllocError>
-    ensures line { IfOk result (λ command. app_of command ≡ verify_line) }
+    ensures line { IfOk result (λ command. app_of command ≡ verify_command) }
     ensures local { IfOk result (λ command. (fields_of command).has_globals ≡ false) }
 {
     let history = needed_file(alloc, HISTORY, "FILE", "The history text");
@@ -95,7 +95,7 @@ fn verify_command<'a>(alloc: Global) -> Result<Command<'a>, AllocError>
 }
 
 fn bulk_command<'a>(alloc: Global) -> Result<Command<'a>, AllocError>
-    ensures line { IfOk result (λ command. app_of command ≡ bulk_line) }
+    ensures line { IfOk result (λ command. app_of command ≡ bulk_command) }
     ensures local { IfOk result (λ command. (fields_of command).has_globals ≡ false) }
 {
     let body = needed_file(alloc, BODY, "BODY", "The body of the bulk request");
@@ -114,15 +114,21 @@ fn bulk_command<'a>(alloc: Global) -> Result<Command<'a>, AllocError>
 }
 
 fn explain_command<'a>(alloc: Global) -> Result<Command<'a>, AllocError>
-    ensures line { IfOk result (λ command. app_of command ≡ explain_line) }
+    ensures line { IfOk result (λ command. app_of command ≡ explain_command) }
     ensures local { IfOk result (λ command. (fields_of command).has_globals ≡ false) }
 {
     let command = Command::new(alloc, EXPLAIN)
         .about("Check a history and explain the result")
-        .after_help("Example:\n  casbench explain history.ndjson --html explanation.html");
+        .after_help(
+            "Examples:\n  casbench explain history.ndjson --html explanation.html\n  casbench explain history.ndjson --document cart-7 --html timeline.html",
+        );
     let command = searched_command(alloc, command, history(alloc))?;
     let help = "Write the explanation to this file too, as a page of HTML";
-    with_argument(command, option(alloc, HTML, "OUT", help))
+    let command = with_argument(command, option(alloc, HTML, "OUT", help))?;
+    let help = "Draw the calls of the document with this id on the page";
+    let command = with_argument(command, option(alloc, DOCUMENT, "ID", help))?;
+    let help = "Draw no calls but those on the lines from A to B of the text";
+    with_argument(command, option(alloc, LINES, "A-B", help))
 }
 
 // Returns the command `run` without its arguments.
@@ -179,7 +185,7 @@ fn manner_command<'a>(alloc: Global) -> Result<Command<'a>, AllocError>
 
 // Returns the same with those that say which seeds are tried.
 fn run_command<'a>(alloc: Global) -> Result<Command<'a>, AllocError>
-    ensures line { IfOk result (λ command. app_of command ≡ run_line) }
+    ensures line { IfOk result (λ command. app_of command ≡ run_command) }
     ensures local { IfOk result (λ command. (fields_of command).has_globals ≡ false) }
 {
     let until =
@@ -204,7 +210,7 @@ fn named_program<'a>(alloc: Global) -> Result<Command<'a>, AllocError>
                 "Checks whether a recorded history of an OpenSearch index keeps the compare-and-set promise",
             )
             .after_help(
-                "Exit status:\n  0   yes, verified, or a text was written\n  1   no, refuted or broken\n  2   a text is refused\n  3   out of memory\n  4   a file or stream can't be read or written\n  5   a worker failed\n  6   yes, with fewer calls than --at-least asks for\n  64  the arguments are refused\n\nExamples:\n  casbench check history.ndjson\n  casbench witness history.ndjson > history.witness\n  casbench verify history.ndjson history.witness\n  casbench bulk bulk.body bulk.reply --first 100 >> history.ndjson\n  casbench run --seed 1 --clients 4 --calls 200 --docs 3 --copies 3 --fault none\n  casbench explain history.ndjson --html explanation.html",
+                "Exit status:\n  0   yes, verified, or a text was written\n  1   no, refuted or broken; no run was found\n  2   a text is refused\n  3   out of memory\n  4   a file or stream can't be read or written\n  5   a worker failed, or a recording was lost\n  6   yes, with fewer calls than --at-least asks for\n  64  the arguments are refused\n\nExamples:\n  casbench check history.ndjson\n  casbench witness history.ndjson > history.witness\n  casbench verify history.ndjson history.witness\n  casbench bulk bulk.body bulk.reply --first 100 >> history.ndjson\n  casbench run --seed 1 --clients 4 --calls 200 --docs 3 --copies 3 --fault none\n  casbench explain history.ndjson --html explanation.html",
             ),
     )
 }

@@ -1,11 +1,12 @@
 ghost use Rattle.std.specs.Prelude.{◌≡◌, ◌⊎◌, [], Some, None, IfOk, IfErr, OnOk, map, option_map};
 ghost use Rattle.clap.specs.Words.{FailsBy, HasKind, found_of, rows_of, subcommand_rows_of};
-ghost use Rattle.command_line.specs.Asked.{asked_by, asked_of, asked_of_command, asked_on, bulk_of, check_of, checked_of, explain_of, faults_on, number_or as number_parsed, conflicts_named, ruling_given, verify_of, witness_of};
+ghost use Rattle.command_line.specs.Asked.{asked_by, asked_of, request_of_command, asked_on, bulk_of, check_of, checked_of, explain_of, faults_on, number_or as number_parsed, conflicts_named, ruling_given, verify_of, witness_of};
 
 use crate::arguments;
-use crate::arguments::{AT_LEAST, BODY, CONFLICTS, FIRST, HISTORY, HTML, REPLY, RULE_OUT, WORKERS};
+use crate::arguments::{AT_LEAST, BODY, CONFLICTS, FIRST, HISTORY, REPLY, RULE_OUT, WORKERS};
 use crate::commands::{BULK, CHECK, EXPLAIN, RUN, VERIFY, WITNESS, program};
 use crate::given::{text_given, texts_given};
+use crate::page_request::{PageRequest, page_fault, page_given};
 use crate::run_request::{asked_run, unnamed_of_run};
 use clap::error::ErrorKind;
 use clap::{ArgMatches, Error};
@@ -63,13 +64,13 @@ pub enum Request<'a> {
     /// them.
     Search(Seeds, RunSetting, Disturbance),
     /// To check a history text as `Check` does and to explain what was found; and to write the explanation as
-    /// a page to a file, if one is named.
+    /// a page, if one is asked for.
     Explain {
         file: Option<&'a str>,
         conflicts: Conflicts,
         workers: u64,
         ruling_out: RulingOut,
-        page: Option<&'a str>,
+        page: Option<PageRequest<'a>>,
     },
 }
 
@@ -179,7 +180,7 @@ fn bulk_request<'a>(given: &ArgMatches<'a>) -> Option<Request<'a>>
 }
 
 // Returns a check of a history that is explained, if a reading is named or none is, and a number of workers
-// is given or none is. A file for the page may be named.
+// is given or none is. A page may be asked for.
 fn explain_request<'a>(given: &ArgMatches<'a>) -> Option<Request<'a>>
     ensures { option_map asked_by result ≡ explain_of (rows_of (found_of given.now)) }
 {
@@ -188,18 +189,18 @@ fn explain_request<'a>(given: &ArgMatches<'a>) -> Option<Request<'a>>
         conflicts: conflicts_named(text_given(given, CONFLICTS))?,
         workers: number_or(1, text_given(given, WORKERS))?,
         ruling_out: ruling_given(text_given(given, RULE_OUT)),
-        page: text_given(given, HTML),
+        page: page_given(given)?,
     })
 }
 
 // Returns what the command of this name asks for.
-fn asked_of_command<'a>(
+fn request_of_command<'a>(
     alloc: Global,
     name: &str,
     given: &ArgMatches<'a>,
 ) -> Result<Option<Request<'a>>, AllocError>
     ensures { IfOk result (λ asked. option_map asked_by asked
-        ≡ asked_of_command name.now (rows_of (found_of given.now))) }
+        ≡ request_of_command name.now (rows_of (found_of given.now))) }
 {
     match name {
         CHECK => {
@@ -220,7 +221,7 @@ fn asked_for<'a>(alloc: Global, matches: &ArgMatches<'a>) -> Result<Option<Reque
     ensures { IfOk result (λ asked. option_map asked_by asked ≡ asked_of (subcommand_rows_of matches.now)) }
 {
     match matches.subcommand() {
-        Some((name, given)) => asked_of_command(alloc, name, given),
+        Some((name, given)) => request_of_command(alloc, name, given),
         None => Ok(Some(Request::Check {
             file: None,
             conflicts: Conflicts::Plain,
@@ -240,13 +241,17 @@ fn parse<'a, S: AsStr>(alloc: Global, process_arguments: &'a [S]) -> Result<ArgM
     program(alloc)?.try_get_matches_from(process_arguments)
 }
 
-// Returns the error of arguments that name no reading of a conflict or, for a run, no fault, no disturbance
-// or no seeds, with what they may name. If no command is named, or not all its files and numbers, the parse
-// has refused them before.
-fn unnamed_error(alloc: Global, matches: &ArgMatches<'_>) -> Result<Error, AllocError> {
+// What is said if no reading of a conflict is named.
+const UNNAMED_READING: &str = "the value of --conflicts is plain or maybe";
+
+// Returns the error of arguments that name no reading of a conflict, with what they may name; or for a run no
+// fault, no disturbance or no seeds; or lines without a document, or a document without a page. If no command is
+// named, or not all its files and numbers, the parse has refused them before.
+fn unknown_name_error(alloc: Global, matches: &ArgMatches<'_>) -> Result<Error, AllocError> {
     let choice = match matches.subcommand() {
         Some((RUN, given)) => unnamed_of_run(given),
-        _ => "the value of --conflicts is plain or maybe",
+        Some((EXPLAIN, given)) => page_fault(given).unwrap_or(UNNAMED_READING),
+        _ => UNNAMED_READING,
     };
     program(alloc)?.error(ErrorKind::InvalidValue, choice)
 }
@@ -255,7 +260,8 @@ fn unnamed_error(alloc: Global, matches: &ArgMatches<'_>) -> Result<Error, Alloc
 ///
 /// Errors, with the text for the user: first those of a parse of the arguments, among them those that ask for
 /// help or the version, and out of memory; then a reading of conflicts, a fault of a group or a disturbance
-/// that there isn't. Which of several is returned is tested, not proved.
+/// that there isn't, lines without a document, or a document without a page. Which of several is returned is
+/// tested, not proved.
 pub fn read_request<'a, S: AsStr>(
     alloc: Global,
     process_arguments: &'a [S],
@@ -266,13 +272,13 @@ pub fn read_request<'a, S: AsStr>(
     // None of the errors of the definition applies to them.
     ensures taken { OnOk result (faults_on (map S.text process_arguments.entry.now) ≡ []) }
     // The arguments have that fault, or what they name is none of the commands with its files and a reading
-    // of conflicts, or with its numbers, a fault and a disturbance, and a seed or several.
+    // of conflicts, or with its numbers, a fault and a disturbance, and a seed or several, or with a page.
     ensures refused { IfErr result (λ error. HasKind (faults_on (map S.text process_arguments.entry.now)) error
         ⊎ (asked_on (map S.text process_arguments.entry.now) ≡ None)) }
 {
     let matches = parse(alloc, process_arguments)?;
     match asked_for(alloc, &matches)? {
         Some(request) => Ok(request),
-        None => Err(unnamed_error(alloc, &matches)?),
+        None => Err(unknown_name_error(alloc, &matches)?),
     }
 }

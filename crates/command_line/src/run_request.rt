@@ -1,6 +1,6 @@
 ghost use Rattle.std.specs.Prelude.{◌≡◌, Some, codes, option_map};
 ghost use Rattle.clap.specs.Words.{first_of, found_of, rows_of};
-ghost use Rattle.command_line.specs.Asked.{asked_by, disturbance_named as disturbance_by, fault_named as fault_by, manner_given as manner_by, one_run_of, playing_given as playing_by, number_given as number_by, run_of, runs_of, search_among as among_by, search_of, seeds_named as seeds_by, setting_given as given_by, small_given as small_by};
+ghost use Rattle.command_line.specs.Asked.{asked_by, disturbance_named as disturbance_by, fault_named as fault_by, manner_given as manner_by, one_run_of, playing_given as playing_by, number_given as number_by, run_of, runs_of, search_among as among_by, search_of, range_named as seeds_by, setting_given as given_by, small_given as small_by};
 
 use crate::arguments::{
     CALLS, CLIENTS, COPIES, DISTURB, DOCS, FAULT, IN_TURNS, SEED, SEEDS, UNTIL,
@@ -12,8 +12,8 @@ use disturbances::Disturbance;
 use recorded_runs::{Manner, Playing, RunSetting, Seeds};
 use repl_group::Fault;
 
-// Returns the number that is given, if one is.
-fn number_given(text: Option<&str>) -> Option<u64>
+/// Returns the number that is given, if one is.
+pub fn number_given(text: Option<&str>) -> Option<u64>
     ensures { result ≡ number_by (option_map (λ t. t.now) text.entry) }
 {
     match text {

@@ -1,9 +1,10 @@
 use crate::forward::failed::Failed;
-use crate::forward::moves::{Turn, is_lost, next_write};
-use crate::forward::standing::Standing;
-use crate::forward::walk::{Placed, Walk};
+use crate::forward::moves::{NextTry, is_dead_end, next_write};
+use crate::forward::state::SearchState;
+use crate::forward::walk::{ForwardWalk, Placed};
 use crate::limit::Limit;
-use crate::rules::link::Link;
+use crate::per_record::PerRecord;
+use crate::rules::chain_write::{Chain, ChainWrite};
 use crate::rules::numbers::places_with_pairs;
 use doc_register::Conflicts;
 use events::{Rec, Seen};
@@ -13,27 +14,27 @@ use version_pair::{NoMemory, Pair};
 
 pub mod failed;
 pub mod inserted_pair;
-pub mod kind;
 pub mod known;
 pub mod lines;
 pub mod moves;
 pub mod numbers;
 pub mod rooms;
-pub mod standing;
+pub mod state;
+pub mod wait_kind;
 pub mod walk;
 
 // A point that the walk reached, and what is tried there next.
 #[derive(Clone, Copy)]
 struct Choice {
-    standing: Standing,
+    state: SearchState,
     // The number of records that were placed.
     placed: usize,
-    turn: Turn,
+    next: NextTry,
 }
 
-// The result of a step of the search.
+// What a step of the search came to.
 #[derive(Clone, Copy, PartialEq, Eq)]
-enum Step {
+enum StepOutcome {
     // All answered records are placed.
     Done,
     // The search goes on.
@@ -45,7 +46,7 @@ enum Step {
 // A search, and the points to which it may come back.
 #[derive(Drop)]
 struct Search<'a> {
-    walk: Walk<'a>,
+    walk: ForwardWalk<'a>,
     choices: Vec<Choice>,
     failed: Failed,
     // The latest of the replies that were the first left at some point.
@@ -53,17 +54,37 @@ struct Search<'a> {
 }
 
 impl Search<'_> {
+    // The search before its first step; `None` if the records contradict each other.
+    fn of<'a>(
+        alloc: Global,
+        records: &'a [Rec],
+        conflicts: Conflicts,
+        used: &'a [Pair],
+        limits: &[Limit],
+    ) -> Result<Option<Search<'a>>, NoMemory> {
+        let steps = most_steps(records, limits);
+        let Some(walk) = ForwardWalk::of(alloc, records, conflicts, used, limits, steps)? else {
+            return Ok(None);
+        };
+        Ok(Some(Search {
+            walk,
+            choices: Vec::with_capacity(alloc, records.len())?,
+            failed: Failed::of(alloc, records)?,
+            furthest: None,
+        }))
+    }
+
     // Places the reads, and records the point if it can lead anywhere; otherwise goes back to the last one.
     fn arrive(&mut self) -> Result<(), NoMemory> {
         self.walk.place_reads()?;
         self.furthest = self.furthest.max(self.walk.next_reply());
-        if self.failed.has(self.walk.standing.key()) || is_lost(&mut self.walk) {
+        if self.failed.has(self.walk.state.key()) || is_dead_end(&mut self.walk) {
             self.go_back();
         } else {
             self.choices.push(Choice {
-                standing: self.walk.standing,
+                state: self.walk.state,
                 placed: self.walk.order.len(),
-                turn: Turn::Next(0),
+                next: NextTry::Next(None),
             })?;
         }
         Ok(())
@@ -72,7 +93,7 @@ impl Search<'_> {
     // Takes back what was placed since the last point.
     fn go_back(&mut self) {
         if let Some(last) = self.choices.last() {
-            self.walk.take_back(last.standing, last.placed);
+            self.walk.take_back(last.state, last.placed);
         }
     }
 
@@ -81,126 +102,107 @@ impl Search<'_> {
     fn leave(&mut self) {
         let room = self.walk.room();
         if let Some(last) = self.choices.last_mut() {
-            if let Some(more) = last.standing.with_more(room) {
-                last.standing = more;
-                last.turn = Turn::Next(0);
-                self.walk.standing = more;
+            if let Some(more) = last.state.with_more(room) {
+                last.state = more;
+                last.next = NextTry::Next(None);
+                self.walk.state = more;
                 return;
             }
         }
         if let Some(last) = self.choices.pop() {
-            self.failed.note(last.standing.key());
+            self.failed.note(last.state.key());
             self.go_back();
         }
     }
 
     // One step.
-    fn step(&mut self) -> Result<Step, NoMemory> {
+    fn step(&mut self) -> Result<StepOutcome, NoMemory> {
         if self.walk.is_done() {
-            return Ok(Step::Done);
+            return Ok(StepOutcome::Done);
         }
         let Some(last) = self.choices.last_mut() else {
-            return Ok(Step::Stuck);
+            return Ok(StepOutcome::Stuck);
         };
-        match next_write(&mut self.walk, &mut last.turn) {
+        match next_write(&mut self.walk, &mut last.next) {
             Some(write) => {
                 self.walk.perform(write)?;
                 self.arrive()?;
             }
             None => self.leave(),
         }
-        Ok(Step::More)
+        Ok(StepOutcome::More)
     }
 
-    // Whether an order is found in that many steps.
-    fn run(&mut self, most: usize) -> Result<bool, NoMemory> {
+    // Whether an order is found in the steps that the walk may take.
+    fn run(&mut self) -> Result<bool, NoMemory> {
+        let most = self.walk.steps_left;
         self.arrive()?;
         for _ in 0..most {
             match self.step()? {
-                Step::Done => return Ok(true),
-                Step::More if self.walk.steps < most => {}
-                Step::More | Step::Stuck => return Ok(false),
+                StepOutcome::Done => return Ok(true),
+                StepOutcome::More if self.walk.steps_left > 0 => {}
+                StepOutcome::More | StepOutcome::Stuck => return Ok(false),
             }
         }
         Ok(false)
     }
+
+    // The chain of the order that was found. (The points to which the search could have come back are given up
+    // before it is made.)
+    fn into_chain(self, alloc: Global) -> Result<Chain, NoMemory> {
+        let Search { walk, choices, .. } = self;
+        drop(choices);
+        chain_of(alloc, &walk)
+    }
 }
 
-// The chain of the walk, and the stretch of each record that is not in it.
-fn chain_and_stretches(
-    alloc: Global,
-    walk: &Walk,
-) -> Result<(Vec<Link>, Vec<Option<usize>>), NoMemory> {
-    let mut links = Vec::new(alloc);
-    let mut given = vec![in alloc; None; walk.records.len()]?;
+// The chain of the walk.
+fn chain_of(alloc: Global, walk: &ForwardWalk) -> Result<Chain, NoMemory> {
+    let mut writes = Vec::new(alloc);
+    let mut stretches = PerRecord::new(alloc, walk.records, None)?;
     for placed in &walk.order {
         match *placed {
-            Placed::Read(rec) => {
-                if let Some(stretch) = given.get_mut(rec) {
-                    *stretch = Some(links.len());
-                }
-            }
-            Placed::Known(rec, at) => links.push(Link {
-                pair: walk.known.get(at).map(|known| known.pair),
+            Placed::Read(rec) => stretches.set(rec, Some(writes.len())),
+            Placed::Known { rec, pair, .. } => writes.push(ChainWrite {
+                pair: Some(pair),
                 rec,
             })?,
-            Placed::Inserted(rec, pair) => links.push(Link { pair, rec })?,
+            Placed::Inserted(rec, pair) => writes.push(ChainWrite { pair, rec })?,
             Placed::Turned(rec, pair) => {
-                if let Some(stretch) = given.get_mut(rec) {
-                    *stretch = None;
-                }
-                links.push(Link { pair, rec })?;
+                stretches.set(rec, None);
+                writes.push(ChainWrite { pair, rec })?;
             }
         }
     }
-    Ok((links, given))
+    Ok(Chain { writes, stretches })
 }
 
-// The number of steps that a search of that many records may take. A search with limits may have nothing to
-// find, and takes fewer.
-fn most_steps(records: usize, limits: &[Limit]) -> usize {
+// The number of steps that a search of these records may take. A search with limits may have nothing to find,
+// and takes fewer.
+fn most_steps(records: &[Rec], limits: &[Limit]) -> usize {
     if limits.is_empty() {
-        records.saturating_mul(2).saturating_add(100_000)
+        records.len() * 2 + 100_000
     } else {
-        records.saturating_add(20_000)
+        records.len() + 20_000
     }
 }
 
-// The chain of an order that the search finds, and the stretch of each record that is not in it. If it finds
-// none, `stuck` is how far it came.
-fn found_chain(
-    alloc: Global,
-    records: &[Rec],
-    conflicts: Conflicts,
-    used: &[Pair],
-    limits: &[Limit],
-    stuck: &mut Option<usize>,
-) -> Result<Option<(Vec<Link>, Vec<Option<usize>>)>, NoMemory> {
-    *stuck = None;
-    let Some(walk) = Walk::of(alloc, records, conflicts, used, limits)? else {
-        return Ok(None);
-    };
-    let mut search = Search {
-        walk,
-        choices: Vec::with_capacity(alloc, records.len())?,
-        failed: Failed::of(alloc, records.len())?,
-        furthest: None,
-    };
-    if search.run(most_steps(records.len(), limits))? {
-        // (The points to which it could have come back are given up before the chain is made.)
-        search.choices = Vec::new(alloc);
-        return Ok(Some(chain_and_stretches(alloc, &search.walk)?));
-    }
-    *stuck = search.furthest;
-    Ok(None)
+/// What the search forward comes to.
+#[derive(Drop)]
+pub enum ForwardSearch {
+    /// The places of an order, which is a guess.
+    Found(Vec<Place>),
+    /// It found none, and came as far as this reply: the latest one such that all answered calls with an earlier
+    /// reply had a place. `None` if it wasn't begun, since the records contradict each other, or if there are no
+    /// pairs for what it found.
+    Stuck(Option<usize>),
 }
 
-/// Returns an order that completes unanswered writes, by a search forward in time. It has room for an
-/// invented pair only if a number is left that none of the pairs in use has, and within the limits. Returns
-/// `None` if none is found in a number of steps in proportion to the records; then `stuck` is how far it came:
-/// the latest reply such that all answered calls with an earlier reply had a position.
+/// Looks for an order that completes unanswered writes, by a search forward in time. It has room for an
+/// invented pair only if a number is left that none of the pairs in use has, and within the limits. It gives up
+/// after a number of steps in proportion to the records.
 ///
-/// The result is a guess that `DocWitness::check` must check.
+/// What is found is a guess that `DocWitness::check` must check.
 pub fn search_forward(
     alloc: Global,
     records: &[Rec],
@@ -208,11 +210,17 @@ pub fn search_forward(
     conflicts: Conflicts,
     used: &[Pair],
     limits: &[Limit],
-    stuck: &mut Option<usize>,
-) -> Result<Option<Vec<Place>>, NoMemory> {
-    // (What the search keeps is given up before the places are made, so that memory has only one of the two.)
-    match found_chain(alloc, records, conflicts, used, limits, stuck)? {
-        Some((links, given)) => places_with_pairs(alloc, records, &links, &given, seen),
-        None => Ok(None),
+) -> Result<ForwardSearch, NoMemory> {
+    let Some(mut search) = Search::of(alloc, records, conflicts, used, limits)? else {
+        return Ok(ForwardSearch::Stuck(None));
+    };
+    if !search.run()? {
+        return Ok(ForwardSearch::Stuck(search.furthest));
+    }
+    // (What the search keeps is given up here, so that memory doesn't have the places beside it.)
+    let chain = search.into_chain(alloc)?;
+    match places_with_pairs(alloc, records, &chain, seen)? {
+        Some(places) => Ok(ForwardSearch::Found(places)),
+        None => Ok(ForwardSearch::Stuck(None)),
     }
 }

@@ -13,61 +13,41 @@ impl Free<'_> {
         Free { used }
     }
 
-    // The number of pairs in use below this one.
-    fn count_below(self, pair: Pair) -> usize {
-        self.used.partition_point(|entry| *entry < pair)
+    // The pairs in use from this one on.
+    fn used_from(&self, pair: Pair) -> &[Pair] {
+        &self.used[self.used.partition_point(|entry| *entry < pair)..]
     }
 
     /// Returns the number of pairs that are free from one pair on and below another of its term.
     pub fn count(self, from: Pair, below: Pair) -> u64 {
-        let used = self
-            .count_below(below)
-            .saturating_sub(self.count_below(from));
+        let used = self.used_from(from).partition_point(|entry| *entry < below);
+        // (None is free if the second pair is not above the first: the number isn't below zero.)
         below
             .seq()
             .saturating_sub(from.seq())
-            .saturating_sub(u64::try_from(used).unwrap_or(u64::MAX))
-    }
-
-    // Whether the pair in use at this index is the one with that many numbers more than another.
-    fn is_next(self, place: usize, from: Pair, more: usize) -> bool {
-        match (self.used.get(place), u64::try_from(more)) {
-            (Some(pair), Ok(more)) => {
-                pair.term() == from.term() && pair.seq() == from.seq().saturating_add(more)
-            }
-            _ => false,
-        }
-    }
-
-    // How many pairs in use follow one another without a free one between, from this one on. It is found by
-    // bisection: the first n pairs are without a gap if and only if the last of them is where it would be
-    // without one.
-    fn count_following(self, from: Pair) -> usize {
-        let start = self.count_below(from);
-        let mut count = 0usize;
-        let mut too_many = self.used.len().saturating_sub(start).saturating_add(1);
-        for _ in 0..usize::BITS {
-            let half = count.saturating_add(too_many.saturating_sub(count) / 2);
-            if half == count {
-                break;
-            }
-            if self.is_next(
-                start.saturating_add(half).saturating_sub(1),
-                from,
-                half.saturating_sub(1),
-            ) {
-                count = half;
-            } else {
-                too_many = half;
-            }
-        }
-        count
+            .saturating_sub(used as u64)
     }
 
     /// Returns the least number that is free in the term of a pair, from its own number on.
     pub fn least_from(self, from: Pair) -> u64 {
-        let following = u64::try_from(self.count_following(from)).unwrap_or(u64::MAX);
-        from.seq().saturating_add(following)
+        // It is found by bisection: pairs in use follow one another without a gap up to one of them if and
+        // only if that one is where it would be without a gap.
+        let mut next = from.seq();
+        let mut rest = self.used_from(from);
+        for _ in 0..usize::BITS {
+            let (lesser, others) = rest.split_at(rest.len() / 2);
+            let Some((middle, greater)) = others.split_first() else {
+                break;
+            };
+            let follows = middle.seq().checked_sub(next) == Some(lesser.len() as u64);
+            if middle.term() == from.term() && follows {
+                next = middle.seq() + 1;
+                rest = greater;
+            } else {
+                rest = lesser;
+            }
+        }
+        next
     }
 
     /// Returns the least pair that is free from one pair on and below another, which must be of the same
@@ -82,25 +62,25 @@ impl Free<'_> {
     }
 }
 
-/// Numbers between two pairs of one term: from one pair on and below another.
+/// The pairs between two pairs of one term: from one on and below another.
 #[derive(Clone, Copy)]
-pub struct Gap {
+pub struct PairRange {
     pub from: Pair,
     pub upper: Pair,
 }
 
-impl Gap {
-    /// Returns the numbers above a pair and below another, if both are of one term. Before the first pair the
+impl PairRange {
+    /// Returns the pairs above a pair and below another, if both are of one term. Before the first pair the
     /// term counts as 1.
-    pub fn between(lower: Option<Pair>, upper: Pair) -> Option<Gap> {
+    pub fn between(lower: Option<Pair>, upper: Pair) -> Option<PairRange> {
         let (term, seq) = match lower {
-            Some(lower) => (lower.term(), lower.seq().saturating_add(1)),
+            Some(lower) => (lower.term(), lower.seq() + 1),
             None => (1, 0),
         };
         if term != upper.term() {
             return None;
         }
-        Some(Gap {
+        Some(PairRange {
             from: Pair::new(term, seq)?,
             upper,
         })

@@ -3,7 +3,10 @@
 //!
 //! ```text
 //! let places = complete_by_rules(alloc, &records, seen, conflicts)?; // Option<Vec<Place>>
-//! let places = search_forward(alloc, &records, seen, conflicts, &used, &limits, &mut stuck)?;
+//! match search_forward(alloc, &records, seen, conflicts, &used, &limits)? {
+//!     ForwardSearch::Found(places) => {} // Vec<Place>
+//!     ForwardSearch::Stuck(furthest) => {} // the reply that it came to
+//! }
 //! ```
 #![tactic(auto)]
 
@@ -11,10 +14,11 @@ mod forward;
 mod free;
 mod limit;
 mod near;
+mod per_record;
 mod rules;
 mod timed;
 
-pub use forward::search_forward;
-pub use free::{Free, Gap};
+pub use forward::{ForwardSearch, search_forward};
+pub use free::{Free, PairRange};
 pub use limit::Limit;
 pub use rules::complete_by_rules;

@@ -10,10 +10,8 @@ use std::alloc::Global;
 use version_pair::{NoMemory, Pair};
 
 pub mod asking;
-pub mod by_number;
+pub mod chain_write;
 pub mod flags;
-pub mod incomplete;
-pub mod link;
 pub mod lost;
 pub mod named;
 pub mod numbers;
@@ -37,16 +35,14 @@ pub fn complete_by_rules(
     conflicts: Conflicts,
 ) -> Result<Option<Vec<Place>>, NoMemory> {
     let mut lost = Lost::of(alloc, records)?;
-    let Some(mut links) = named_chain(alloc, records, &mut lost, conflicts)? else {
+    let Some(mut writes) = named_chain(alloc, records, &mut lost, conflicts)? else {
         return Ok(None);
     };
     let mut refused = Refused::of(alloc, records, &lost)?;
-    for _ in 0..records.len().saturating_add(1) {
-        match next_round(alloc, records, links, &mut lost, &mut refused, conflicts)? {
-            Round::More(more) => links = more,
-            Round::Done(links, stretches) => {
-                return places_with_pairs(alloc, records, &links, &stretches, seen);
-            }
+    for _ in 0..records.len() + 1 {
+        match next_round(alloc, records, writes, &mut lost, &mut refused, conflicts)? {
+            Round::More(more) => writes = more,
+            Round::Done(chain) => return places_with_pairs(alloc, records, &chain, seen),
             Round::Stuck => return Ok(None),
         }
     }

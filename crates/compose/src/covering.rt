@@ -43,12 +43,12 @@ fn cover_scarce(
         seen: history.seen(),
         used,
     };
-    let mut stuck = None;
-    let others = with_gaps_again(alloc, history, witnesses, &shortage.gaps, known, &mut stuck)?;
-    match joined_again(alloc, history, others, used)? {
+    let others = with_gaps_again(alloc, history, witnesses, &shortage.gaps, known)?;
+    let furthest = others.furthest;
+    match joined_again(alloc, history, others.witnesses, used)? {
         Joined::Cover(others) => Ok(Covering::Found(others)),
         Joined::Short(others, shortage) => {
-            cover_with_fewer(alloc, history, others, shortage, known, stuck)
+            cover_with_fewer(alloc, history, others, shortage, known, furthest)
         }
         Joined::Spent => Ok(Covering::NotFound(None)),
     }

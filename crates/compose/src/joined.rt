@@ -7,7 +7,7 @@ ghost use Rattle.compose.specs.aids.Joined.{IsJoined};
 ghost use Rattle.compose.specs.aids.Searched.{AreSearched, HasLost};
 
 use crate::renumbered::gaps::Gaps;
-use crate::renumbered::{Change, Numbers, numbers_of, with_all};
+use crate::renumbered::{Change, GapNumbers, numbers_of, with_all};
 use crate::shortage::Shortage;
 use crate::taken::pair_twice;
 use crate::used_pairs::UsedPairs;
@@ -95,9 +95,9 @@ pub fn renumbered(
         → IsJoined conflicts history.now first joined) }
 {
     match numbers_of(alloc, history.keys(), &witnesses, &gaps, used)? {
-        Numbers::Given(changes) => join_changed(alloc, history, witnesses, &changes),
-        Numbers::Short(tight) => Ok(Joined::Short(witnesses, Shortage { gaps, tight })),
-        Numbers::Spent => Ok(Joined::Spent),
+        GapNumbers::Given(changes) => join_changed(alloc, history, witnesses, &changes),
+        GapNumbers::Short(tight) => Ok(Joined::Short(witnesses, Shortage { gaps, tight })),
+        GapNumbers::Spent => Ok(Joined::Spent),
     }
 }
 

@@ -1,10 +1,10 @@
 ghost use Rattle.std.specs.Prelude.{IfOk, IfSome};
 ghost use Rattle.compose.specs.aids.Searched.{IsAlike};
 
-use crate::part::Part;
+use crate::part::OrderPart;
 use crate::renumbered::gaps::Gap;
 use crate::reordered::reordered_copy;
-use completing::{Limit, search_forward};
+use completing::{ForwardSearch, Limit, search_forward};
 use doc_register::Conflicts;
 use events::{Rec, Seen};
 use places::{DocWitness, Place};
@@ -30,24 +30,24 @@ fn places_found(
     records: &[Rec],
     search: PartSearch<'_>,
 ) -> Result<Option<Vec<Place>>, NoMemory> {
-    // How far the search came is of no use here.
-    let mut stuck = None;
-    search_forward(
+    match search_forward(
         alloc,
         records,
         search.seen,
         search.conflicts,
         search.used,
         search.limits,
-        &mut stuck,
-    )
+    )? {
+        ForwardSearch::Found(places) => Ok(Some(places)),
+        ForwardSearch::Stuck(_) => Ok(None),
+    }
 }
 
 /// The part of a document's order near a gap, which is searched as a document of its own: few records, where
 /// the document may have very many.
 #[derive(Drop)]
 pub struct Nearby {
-    part: Part,
+    part: OrderPart,
     // The numbers of its records among those of the document.
     members: Vec<usize>,
     // Its records, behind one for the write before it, if there is one.
@@ -65,7 +65,7 @@ impl Nearby {
         let (Some(first), Some(last)) = (gap.places.first(), gap.places.last()) else {
             return Ok(None);
         };
-        let part = Part::around(witness, *first, *last, reach);
+        let part = OrderPart::around(witness, *first, *last, reach);
         let members = part.members(alloc, witness)?;
         let records = part.records(alloc, witness, &members)?;
         Ok(records.map(|records| Nearby {
@@ -127,22 +127,23 @@ impl Nearby {
         alloc: Global,
         search: PartSearch<'_>,
     ) -> Result<Option<usize>, NoMemory> {
-        let replies = self.replies(alloc)?;
-        let mut low = 0usize;
-        let mut high = replies.len().saturating_sub(1);
+        let all = self.replies(alloc)?;
+        // The first one that fails is among these, or an order is found with all.
+        let mut replies = all.as_slice();
         for _ in 0..usize::BITS {
-            let middle = low.saturating_add(high.saturating_sub(low) / 2);
-            match replies.get(middle) {
-                Some(event) if low < high => {
-                    if self.has_order_before(alloc, search, event.saturating_add(1))? {
-                        low = middle.saturating_add(1);
-                    } else {
-                        high = middle;
-                    }
-                }
-                _ => break,
+            let (before, after) = replies.split_at(replies.len() - replies.len() / 2);
+            let Some(last) = before.last() else {
+                break;
+            };
+            if after.is_empty() {
+                break;
+            }
+            if self.has_order_before(alloc, search, last.saturating_add(1))? {
+                replies = after;
+            } else {
+                replies = before;
             }
         }
-        Ok(replies.get(low).copied())
+        Ok(replies.last().copied())
     }
 }

@@ -228,7 +228,7 @@ fn offence_if(
     }
     match search_outcome_to(alloc, history, conflicts, place)? {
         SearchOutcome::Found => {
-            let more = place.saturating_add(1);
+            let more = place + 1;
             guesses.next = Some(more);
             guesses.shown = guesses.shown.max(more);
             Ok(None)

@@ -1,3 +1,4 @@
+use crate::taken::record_of;
 use doc_register::{Op, Reply};
 use events::Rec;
 use places::{DocWitness, Place};
@@ -9,7 +10,7 @@ const MOST_LEFT_OUT: usize = 500;
 
 /// A part of a document's order, by indices of its places: from `from` on and below `end`.
 #[derive(Clone, Copy)]
-pub struct Part {
+pub struct OrderPart {
     // The answered write before it; `None` if it begins with the order.
     before: Option<usize>,
     from: usize,
@@ -18,7 +19,7 @@ pub struct Part {
 
 // Where the place of a record is.
 #[derive(Clone, Copy, PartialEq, Eq)]
-enum Side {
+enum PartSide {
     // In no order: the record is unanswered.
     LeftOut,
     // In the part.
@@ -29,8 +30,7 @@ enum Side {
 
 // The record at an index of the order, if it is an answered write that was performed.
 fn write_at(witness: &DocWitness, index: usize) -> Option<Rec> {
-    let place = witness.places().get(index)?;
-    let found = *witness.records().get(place.rec)?;
+    let found = record_of(witness, *witness.places().get(index)?)?;
     found.pair_taken()?;
     Some(found)
 }
@@ -40,10 +40,10 @@ fn write_below(witness: &DocWitness, index: usize, reach: usize) -> Option<usize
     let mut left = reach;
     for below in (0..index).rev() {
         if write_at(witness, below).is_some() {
-            left = left.saturating_sub(1);
-            if left == 0 {
+            if left <= 1 {
                 return Some(below);
             }
+            left -= 1;
         }
     }
     None
@@ -54,10 +54,10 @@ fn write_above(witness: &DocWitness, index: usize, reach: usize) -> Option<usize
     let mut left = reach;
     for above in index.saturating_add(1)..witness.places().len() {
         if write_at(witness, above).is_some() {
-            left = left.saturating_sub(1);
-            if left == 0 {
+            if left <= 1 {
                 return Some(above);
             }
+            left -= 1;
         }
     }
     None
@@ -85,14 +85,14 @@ fn same_before(write: Rec, event: usize) -> Option<Rec> {
     })
 }
 
-impl Part {
+impl OrderPart {
     /// Returns the part that begins behind the answered write that is `reach` such writes below the first of
     /// these places, and ends with the one that is as many above the last. It has the rest of the order if
     /// there are fewer.
-    pub fn around(witness: &DocWitness, first: usize, last: usize, reach: usize) -> Part {
+    pub fn around(witness: &DocWitness, first: usize, last: usize, reach: usize) -> OrderPart {
         let before = write_below(witness, first, reach);
         let end = write_above(witness, last, reach);
-        Part {
+        OrderPart {
             before,
             from: before.map_or(0, |index| index.saturating_add(1)),
             end: end.map_or(witness.places().len(), |index| index.saturating_add(1)),
@@ -100,15 +100,15 @@ impl Part {
     }
 
     // For each record of the document on which side its place is.
-    fn sides(self, alloc: Global, witness: &DocWitness) -> Result<Vec<Side>, NoMemory> {
-        let mut sides = vec![in alloc; Side::LeftOut; witness.records().len()]?;
+    fn sides(self, alloc: Global, witness: &DocWitness) -> Result<Vec<PartSide>, NoMemory> {
+        let mut sides = vec![in alloc; PartSide::LeftOut; witness.records().len()]?;
         for (index, place) in witness.places().iter().enumerate() {
             if let Some(side) = sides.get_mut(place.rec) {
                 let is_within = self.from <= index && index < self.end;
                 *side = if is_within {
-                    Side::Within
+                    PartSide::Within
                 } else {
-                    Side::Outside
+                    PartSide::Outside
                 };
             }
         }
@@ -121,11 +121,8 @@ impl Part {
         let mut last = 0;
         let mut next = usize::MAX;
         for (index, place) in witness.places().iter().enumerate().skip(self.from) {
-            let reply = witness
-                .records()
-                .get(place.rec)
-                .and_then(|found| found.heard);
-            if let Some(heard) = reply {
+            let found = record_of(witness, *place);
+            if let Some(heard) = found.and_then(|found| found.heard) {
                 if index < self.end {
                     last = last.max(heard.0);
                 } else {
@@ -142,16 +139,15 @@ impl Part {
         let last = self.last_event(witness);
         let mut members = Vec::new(alloc);
         let mut left_out = Vec::new(alloc);
-        for (rec, side) in self.sides(alloc, witness)?.iter().enumerate() {
-            let call = witness.records().get(rec).map(|found| found.call_at);
+        let sides = self.sides(alloc, witness)?;
+        for (rec, (found, side)) in witness.records().iter().zip(sides.iter()).enumerate() {
             match side {
-                Side::Within => members.push(rec)?,
-                Side::LeftOut if call < Some(last) => left_out.push(rec)?,
-                Side::LeftOut | Side::Outside => {}
+                PartSide::Within => members.push(rec)?,
+                PartSide::LeftOut if found.call_at < last => left_out.push(rec)?,
+                PartSide::LeftOut | PartSide::Outside => {}
             }
         }
-        let skipped = left_out.len().saturating_sub(MOST_LEFT_OUT);
-        for rec in left_out.iter().skip(skipped) {
+        for rec in left_out.iter().rev().take(MOST_LEFT_OUT) {
             members.push(*rec)?;
         }
         members.sort_unstable();
@@ -177,7 +173,7 @@ impl Part {
         witness: &DocWitness,
         members: &[usize],
     ) -> Result<Option<Vec<Rec>>, NoMemory> {
-        let mut records = Vec::with_capacity(alloc, members.len().saturating_add(1))?;
+        let mut records = Vec::with_capacity(alloc, members.len() + 1)?;
         if let Some(first) = self.first_record(witness, members) {
             records.push(first)?;
         }
@@ -202,7 +198,7 @@ impl Part {
         own: &[Place],
     ) -> Result<Vec<Place>, NoMemory> {
         let places = witness.places();
-        let mut others = Vec::with_capacity(alloc, places.len().saturating_add(own.len()))?;
+        let mut others = Vec::with_capacity(alloc, places.len() + own.len())?;
         for place in places.iter().take(self.from) {
             others.push(*place)?;
         }

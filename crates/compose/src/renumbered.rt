@@ -18,19 +18,26 @@ mod given;
 mod names;
 mod tight;
 
-/// Another pair for a place: the number of the witness, the index of the place, the pair.
-pub type Change = (usize, usize, Pair);
+/// Another pair for a place of a witness.
+#[derive(Clone, Copy, PartialEq, Eq, PartialOrd, Ord)]
+pub struct Change {
+    /// The number of the witness.
+    witness: usize,
+    /// The index of the place.
+    place: usize,
+    pair: Pair,
+}
 
 // The source of the numbers that are given, and what decides which places may take them.
 #[derive(Drop)]
-struct Numbering<'a> {
+struct GapNumbering<'a> {
     free: FreeNumbers<'a>,
     names: &'a Names,
     // Whether the pairs that conditions of the document name are avoided.
     avoids: bool,
 }
 
-impl Numbering<'_> {
+impl GapNumbering<'_> {
     // Returns free pairs for the places of a gap, in their order: each takes the least above the one before
     // that it may take. `None` if the gap has too few.
     fn free_pairs(
@@ -77,30 +84,26 @@ impl Numbering<'_> {
     }
 }
 
-// Returns the gaps, by shard and then by rising upper end.
-fn gaps_by_end(alloc: Global, gaps: &Gaps) -> Result<Vec<usize>, NoMemory> {
+// Returns the shards, the upper ends and the indices of the gaps, in this order.
+fn gaps_by_end(alloc: Global, gaps: &Gaps) -> Result<Vec<(u32, Pair, usize)>, NoMemory> {
     let mut ends = Vec::with_capacity(alloc, gaps.list.len())?;
     for gap in 0..gaps.list.len() {
         ends.push((gaps.list[gap].shard, gaps.list[gap].numbers.upper, gap))?;
     }
     ends.sort_unstable();
-    let mut order = Vec::with_capacity(alloc, ends.len())?;
-    for (_, _, gap) in &ends {
-        order.push(*gap)?;
-    }
-    Ok(order)
+    Ok(ends)
 }
 
 // Returns the changes that give the gaps their pairs, in the order of witnesses and places.
-fn changes_to(alloc: Global, gaps: &Gaps, filled: &[Filled]) -> Result<Vec<Change>, NoMemory> {
+fn changes_to(alloc: Global, filled: &[Filled]) -> Result<Vec<Change>, NoMemory> {
     let mut changes = Vec::new(alloc);
     for entry in filled {
-        if let Some(gap) = gaps.list.get(entry.gap) {
-            for i in 0..entry.pairs.len() {
-                if let Some(place) = gap.places.get(i) {
-                    changes.push((gap.witness, *place, entry.pairs[i]))?;
-                }
-            }
+        for (place, pair) in entry.gap.places.iter().zip(entry.pairs.iter()) {
+            changes.push(Change {
+                witness: entry.gap.witness,
+                place: *place,
+                pair: *pair,
+            })?;
         }
     }
     changes.sort_unstable();
@@ -109,7 +112,7 @@ fn changes_to(alloc: Global, gaps: &Gaps, filled: &[Filled]) -> Result<Vec<Chang
 
 /// The result of giving numbers to gaps.
 #[derive(Drop)]
-pub enum Numbers {
+pub enum GapNumbers {
     /// Other pairs for their places, in the order of witnesses and places.
     Given(Vec<Change>),
     /// Too few numbers are free for these gaps, by their indices in the list.
@@ -120,25 +123,32 @@ pub enum Numbers {
 
 // Returns numbers for all gaps, the one with the least upper end first. Each takes the least numbers that are
 // free and that it may take, so there are enough for all exactly if each finds some.
-fn numbers_in(alloc: Global, gaps: &Gaps, numbering: Numbering<'_>) -> Result<Numbers, NoMemory> {
+fn numbers_in(
+    alloc: Global,
+    gaps: &Gaps,
+    numbering: GapNumbering<'_>,
+) -> Result<GapNumbers, NoMemory> {
     let mut numbering = numbering;
     for (shard, pair) in &gaps.kept {
         numbering.free.give(*shard, *pair)?;
     }
     let mut filled = Vec::new(alloc);
-    for number in &gaps_by_end(alloc, gaps)? {
+    for (_, _, number) in &gaps_by_end(alloc, gaps)? {
         let Some(gap) = gaps.list.get(*number) else {
             continue;
         };
         match numbering.fill(alloc, gap)? {
             Some(pairs) => filled.push(Filled {
-                gap: *number,
+                number: *number,
+                gap,
                 pairs,
             })?,
-            None => return Ok(Numbers::Short(tight_set(alloc, gaps, &filled, *number)?)),
+            None => {
+                return Ok(GapNumbers::Short(tight_set(alloc, &filled, *number, gap)?));
+            }
         }
     }
-    Ok(Numbers::Given(changes_to(alloc, gaps, &filled)?))
+    Ok(GapNumbers::Given(changes_to(alloc, &filled)?))
 }
 
 /// Returns numbers for all gaps of the witnesses, over all documents of a shard, the gap with the least upper
@@ -153,20 +163,20 @@ pub fn numbers_of(
     witnesses: &[DocWitness],
     gaps: &Gaps,
     used: &UsedPairs,
-) -> Result<Numbers, NoMemory> {
+) -> Result<GapNumbers, NoMemory> {
     if used.has_twice() {
-        return Ok(Numbers::Spent);
+        return Ok(GapNumbers::Spent);
     }
     let names = Names::of(alloc, keys, witnesses, gaps, used)?;
-    let mut numbers = Numbers::Short(Vec::new(alloc));
+    let mut numbers = GapNumbers::Short(Vec::new(alloc));
     for avoids in [true, false] {
-        let numbering = Numbering {
+        let numbering = GapNumbering {
             free: FreeNumbers::without(alloc, keys, used),
             names: &names,
             avoids,
         };
         numbers = numbers_in(alloc, gaps, numbering)?;
-        if matches!(&numbers, Numbers::Given(_)) {
+        if matches!(&numbers, GapNumbers::Given(_)) {
             break;
         }
     }
@@ -185,9 +195,9 @@ fn change_places(
     let (id, records, places) = witness.into_parts();
     let mut places = places;
     for i in 0..changes.len() {
-        let (_, place, pair) = changes[i];
-        if let Some(found) = places.get_mut(place) {
-            found.pair = Some(pair);
+        let change = changes[i];
+        if let Some(found) = places.get_mut(change.place) {
+            found.pair = Some(change.pair);
         }
     }
     if_valid(DocWitness::check(alloc, id, records, places, conflicts))
@@ -196,7 +206,7 @@ fn change_places(
 // Returns the index at which the changes of this witness end, which begin at `from`.
 fn end_of(changes: &[Change], from: usize, witness: usize) -> usize {
     for i in from..changes.len() {
-        if changes[i].0 != witness {
+        if changes[i].witness != witness {
             return i;
         }
     }

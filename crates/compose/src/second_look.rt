@@ -7,7 +7,7 @@ use crate::joined::witnesses_of;
 use crate::renumbered::gaps::Gaps;
 use crate::taken::shard_of;
 use crate::used_pairs::UsedPairs;
-use doc_check::{DocAnswer, answer_among, is_complete};
+use doc_check::{DocAnswer, OrderAmong, answer_among, is_complete};
 use events::{Front, Seen};
 use places::DocWitness;
 use std::alloc::Global;
@@ -34,19 +34,9 @@ fn second_answer(
 {
     let id = answer.id().copy()?;
     let records = Vec::from_slice(alloc, answer.records())?;
-    // How far the search came is of no use here.
-    let mut stuck = None;
-    match answer_among(
-        alloc,
-        id,
-        records,
-        seen,
-        answer.conflicts(),
-        used,
-        &mut stuck,
-    )? {
-        Some(witness) => Ok(DocAnswer::Found(witness)),
-        None => Ok(answer),
+    match answer_among(alloc, id, records, seen, answer.conflicts(), used)? {
+        OrderAmong::Order(witness) => Ok(DocAnswer::Found(witness)),
+        OrderAmong::Stuck(_) => Ok(answer),
     }
 }
 
@@ -122,60 +112,55 @@ pub fn orders_again(
     witnesses_of(alloc, others)
 }
 
-// Returns another order of the same calls, given which pairs the documents of the shard use, if the search
-// forward finds one. If it doesn't, `stuck` is how far it came (`answer_among`).
-fn order_again(
-    alloc: Global,
-    history: &Front<'_>,
-    witness: &DocWitness,
-    known: SearchContext<'_>,
-    stuck: &mut Option<usize>,
-) -> Result<Option<DocWitness>, NoMemory>
-    ensures { IfOk result (λ found. IfSome found (IsAlike witness.now)) }
-{
-    *stuck = None;
-    let Some(shard) = shard_of(history, witness.id()) else {
-        return Ok(None);
-    };
-    let id = witness.id().copy()?;
-    let records = Vec::from_slice(alloc, witness.records())?;
-    let used = known.used.of_shard(shard);
-    answer_among(
-        alloc,
-        id,
-        records,
-        known.seen,
-        witness.conflicts(),
-        used,
-        stuck,
-    )
+// A witness after another search, and the reply at which the search was stuck, if it found nothing.
+#[derive(Drop)]
+struct SearchedWitness {
+    witness: DocWitness,
+    stuck: Option<usize>,
 }
 
-// Returns the witness, or, if `is_asked` and another one of its document is found, that one. If none is found,
-// `stuck` is how far this search came, if it was further.
+// Returns the witness, or, if it is asked for and the search forward finds another one of its document, given
+// which pairs the documents of the shard use, that one.
 fn witness_again(
     alloc: Global,
     history: &Front<'_>,
     witness: DocWitness,
     known: SearchContext<'_>,
     is_asked: bool,
-    stuck: &mut Option<usize>,
-) -> Result<DocWitness, NoMemory>
-    ensures { IfOk result (IsAlike witness) }
+) -> Result<SearchedWitness, NoMemory>
+    ensures { IfOk result (λ again. IsAlike witness again.witness) }
 {
     // Calling `places` makes it known from here on that its places are valid.
     let _ = witness.places();
-    if !is_asked {
-        return Ok(witness);
+    let shard = if is_asked {
+        shard_of(history, witness.id())
+    } else {
+        None
+    };
+    let Some(shard) = shard else {
+        return Ok(SearchedWitness {
+            witness,
+            stuck: None,
+        });
+    };
+    let id = witness.id().copy()?;
+    let records = Vec::from_slice(alloc, witness.records())?;
+    let used = known.used.of_shard(shard);
+    match answer_among(alloc, id, records, known.seen, witness.conflicts(), used)? {
+        OrderAmong::Order(other) => Ok(SearchedWitness {
+            witness: other,
+            stuck: None,
+        }),
+        OrderAmong::Stuck(stuck) => Ok(SearchedWitness { witness, stuck }),
     }
-    let mut own = None;
-    match order_again(alloc, history, &witness, known, &mut own)? {
-        Some(other) => Ok(other),
-        None => {
-            *stuck = (*stuck).max(own);
-            Ok(witness)
-        }
-    }
+}
+
+/// The witnesses of all documents after another look, and the latest reply at which one of its searches was
+/// stuck, if one found nothing.
+#[derive(Drop)]
+pub struct SecondLook {
+    pub witnesses: Vec<DocWitness>,
+    pub furthest: Option<usize>,
 }
 
 // Returns the witnesses, with those that are asked for searched again.
@@ -185,36 +170,38 @@ fn witnesses_again(
     witnesses: Vec<DocWitness>,
     asked: &[bool],
     known: SearchContext<'_>,
-    stuck: &mut Option<usize>,
-) -> Result<Vec<DocWitness>, NoMemory>
-    ensures { IfOk result (λ others. AreAlike witnesses.items others.items) }
+) -> Result<SecondLook, NoMemory>
+    ensures { IfOk result (λ look. AreAlike witnesses.items look.witnesses.items) }
 {
     let mut others = Vec::with_capacity(alloc, witnesses.len())?;
+    let mut furthest = None;
     for witness in witnesses {
         let is_asked = asked.get(others.len()) == Some(&true);
-        others.push(witness_again(alloc, history, witness, known, is_asked, stuck)?)?;
+        let again = witness_again(alloc, history, witness, known, is_asked)?;
+        furthest = furthest.max(again.stuck);
+        others.push(again.witness)?;
     }
-    Ok(others)
+    Ok(SecondLook {
+        witnesses: others,
+        furthest,
+    })
 }
 
-/// Returns the witnesses. Those that have one of these gaps are searched again; `stuck` is how far the furthest
-/// of the searches came that found nothing.
+/// Returns the witnesses. Those that have one of these gaps are searched again.
 pub fn with_gaps_again(
     alloc: Global,
     history: &Front<'_>,
     witnesses: Vec<DocWitness>,
     gaps: &Gaps,
     known: SearchContext<'_>,
-    stuck: &mut Option<usize>,
-) -> Result<Vec<DocWitness>, NoMemory>
-    ensures { IfOk result (λ others. AreAlike witnesses.items others.items) }
+) -> Result<SecondLook, NoMemory>
+    ensures { IfOk result (λ look. AreAlike witnesses.items look.witnesses.items) }
 {
-    *stuck = None;
     let mut asked = vec![in alloc; false; witnesses.len()]?;
     for gap in &gaps.list {
         if let Some(flag) = asked.get_mut(gap.witness) {
             *flag = true;
         }
     }
-    witnesses_again(alloc, history, witnesses, &asked, known, stuck)
+    witnesses_again(alloc, history, witnesses, &asked, known)
 }

@@ -22,24 +22,24 @@ fn pair_before(pair: Pair) -> Pair {
 
 // Numbers of a shard, both ends among them.
 #[derive(Clone, Copy)]
-struct Stretch {
+struct NumberSpan {
     shard: u32,
     from: Pair,
     to: Pair,
 }
 
-impl Stretch {
+impl NumberSpan {
     // Whether it has the pair.
     fn has(self, pair: Pair) -> bool {
         self.from <= pair && pair <= self.to
     }
 }
 
-// The position of the reply to the call, if the reply shows a pair of the stretch.
-fn shown_in(stretch: Stretch, found: Rec) -> Option<(Pair, usize)> {
+// The position of the reply to the call, if the reply shows a pair of the span.
+fn shown_in(span: NumberSpan, found: Rec) -> Option<(Pair, usize)> {
     let (place, reply) = found.heard?;
     let pair = reply.pair()?;
-    if stretch.has(pair) {
+    if span.has(pair) {
         Some((pair, place))
     } else {
         None
@@ -53,19 +53,19 @@ impl Shortage {
     }
 
     // The pairs that these gaps lie between, and those within.
-    fn stretch(&self) -> Option<Stretch> {
+    fn span(&self) -> Option<NumberSpan> {
         let first = self.tight_gap(0)?;
-        let mut stretch = Stretch {
+        let mut span = NumberSpan {
             shard: first.shard,
             from: pair_before(first.numbers.from),
             to: first.numbers.upper,
         };
         for number in 1..self.tight.len() {
             let gap = self.tight_gap(number)?;
-            stretch.from = stretch.from.min(pair_before(gap.numbers.from));
-            stretch.to = stretch.to.max(gap.numbers.upper);
+            span.from = span.from.min(pair_before(gap.numbers.from));
+            span.to = span.to.max(gap.numbers.upper);
         }
-        Some(stretch)
+        Some(span)
     }
 
     /// Returns the latest among the first replies to show each pair from the end below these gaps to the end
@@ -76,14 +76,14 @@ impl Shortage {
         history: &Front<'_>,
         witnesses: &[DocWitness],
     ) -> Result<Option<usize>, NoMemory> {
-        let Some(stretch) = self.stretch() else {
+        let Some(span) = self.span() else {
             return Ok(None);
         };
         let mut shown = Vec::new(alloc);
         for witness in witnesses {
-            if shard_of(history, witness.id()) == Some(stretch.shard) {
+            if shard_of(history, witness.id()) == Some(span.shard) {
                 for found in witness.records() {
-                    if let Some(entry) = shown_in(stretch, *found) {
+                    if let Some(entry) = shown_in(span, *found) {
                         shown.push(entry)?;
                     }
                 }
@@ -98,11 +98,7 @@ impl Shortage {
 fn last_first(shown: &[(Pair, usize)]) -> Option<usize> {
     let mut last = None;
     for i in 0..shown.len() {
-        let is_first = match i.checked_sub(1) {
-            Some(before) => shown[before].0 != shown[i].0,
-            None => true,
-        };
-        if is_first {
+        if i == 0 || shown[i - 1].0 != shown[i].0 {
             last = last.max(Some(shown[i].1));
         }
     }

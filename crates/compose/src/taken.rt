@@ -38,6 +38,11 @@ pub fn pair_of_place(records: &[Rec], place: Place) -> Option<Pair>
     }
 }
 
+/// Returns the record of a place of the witness.
+pub fn record_of(witness: &DocWitness, place: Place) -> Option<Rec> {
+    witness.records().get(place.rec).copied()
+}
+
 // Adds the pair that the call of a place takes, with the shard.
 fn add_place(
     pairs: &mut Vec<(u32, Pair)>,
@@ -109,6 +114,8 @@ fn pairs_of(
 }
 
 // Returns the first pair that is next to an equal one: in a sorted list, the least pair that is in it twice.
+// Evidence and narrowing have a loop of their own: they look for the least two call numbers, and for the
+// earliest second reply, and a list that served all three would hold a call beside each pair.
 fn first_repeated(pairs: &[(u32, Pair)]) -> Option<(u32, Pair)>
     ensures { IsSorted by_shard pairs.now → IsLeastTwice pairs.now result }
 {

@@ -174,14 +174,14 @@ impl<'a> Scene<'a, '_> {
 /// Takes a third look, if the documents want more numbers than are free: as long as there are too few for
 /// some gaps, one of their documents gets another order near such a gap, with one number fewer. Returns
 /// witnesses that cover the history, if the numbers suffice in the end; else a guess at the reply with which
-/// they become too few, which is not before `stuck`, how far the second look came.
+/// they become too few, which is not before `furthest`, the latest one at which the second look was stuck.
 pub fn cover_with_fewer<'x>(
     alloc: Global,
     history: &'x Front<'_>,
     witnesses: Vec<DocWitness>,
     shortage: Shortage,
     known: SearchContext<'x>,
-    stuck: Option<usize>,
+    furthest: Option<usize>,
 ) -> Result<Covering, NoMemory>
     ensures { IfOk result (λ found. (conflicts : Reading)
         → AreSearched conflicts history.now false (documents_of history.now) witnesses.items
@@ -220,5 +220,5 @@ pub fn cover_with_fewer<'x>(
         known,
     };
     let guessed = scene.short_at(alloc, &shortage)?;
-    Ok(Covering::NotFound(guessed.max(stuck)))
+    Ok(Covering::NotFound(guessed.max(furthest)))
 }

@@ -91,7 +91,7 @@ impl UsedPairs {
         let Some(shard) = shard.and_then(|shard| usize::try_from(shard).ok()) else {
             return Ok(None);
         };
-        for _ in self.shards.len()..shard.saturating_add(1) {
+        for _ in self.shards.len()..=shard {
             self.shards.push(Vec::new(alloc))?;
         }
         Ok(self.shards.get_mut(shard))

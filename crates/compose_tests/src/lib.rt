@@ -1,5 +1,4 @@
-//! Tests of the verdict on all documents of a history, of its evidence, and of the reply at which the search
-//! first fails.
+//! Tests of evidence against histories, of documents that are searched at once, and of the sort of lists.
 #![tactic(auto)]
 
 #[cfg(test)]

@@ -8,6 +8,8 @@ use Rattle.doc_check.specs.NoOrders.{AreUnpaired, HasNoOrder}
 use Rattle.doc_check.specs.ReplyOrder.{IsReplyOrder}
 use Rattle.doc_check.specs.declared.search.DocAnswer.{DocAnswer}
 use Rattle.doc_check.specs.declared.search.DocAnswer.TheVariants.{Found, NotFound}
+use Rattle.doc_check.specs.declared.search.OrderAmong.{OrderAmong}
+use Rattle.doc_check.specs.declared.search.OrderAmong.TheVariants.{Order, Stuck}
 
 -- The answer is about the document, its records and this reading of conflicts: an order found is valid for
 -- them (`AreValid`); if none is found, no places without a given pair are (`HasNoOrder`).
@@ -15,6 +17,12 @@ use Rattle.doc_check.specs.declared.search.DocAnswer.TheVariants.{Found, NotFoun
 abbrev pub IsAbout : List ℕ → List Rec → Conflicts → DocAnswer → Type 0
 IsAbout doc records conflicts (Found w) = (w.doc ≡ doc) × (w.records ≡ records) × (w.conflicts ≡ conflicts) × AreValid conflicts records w.places
 IsAbout doc records conflicts (NotFound n) = (n.doc ≡ doc) × (n.records ≡ records) × (n.conflicts ≡ conflicts) × HasNoOrder conflicts records
+
+-- An order found beside other documents is of the document, its records and this reading of conflicts, and
+-- valid.
+abbrev pub IsOrderFor : List ℕ → List Rec → Conflicts → OrderAmong → Type 0
+IsOrderFor doc records conflicts (Order w) = (w.doc ≡ doc) × (w.records ≡ records) × (w.conflicts ≡ conflicts) × AreValid conflicts records w.places
+IsOrderFor doc records conflicts (Stuck furthest) = Unit {0}
 
 -- the id of the document that an answer is about
 abbrev pub id_of : DocAnswer → List ℕ
@@ -26,10 +34,10 @@ abbrev pub records_of : DocAnswer → List Rec
 records_of (Found w) = w.records
 records_of (NotFound n) = n.records
 
--- the reading of conflicts that an answer is about
-abbrev pub conflicts_of : DocAnswer → Conflicts
-conflicts_of (Found w) = w.conflicts
-conflicts_of (NotFound n) = n.conflicts
+-- how conflicts are read in an answer
+abbrev pub conflict_mode_of : DocAnswer → Conflicts
+conflict_mode_of (Found w) = w.conflicts
+conflict_mode_of (NotFound n) = n.conflicts
 
 -- an order is found, with exactly these places
 -- Source: profile.

@@ -1,4 +1,4 @@
 pub mod Stretches
 pub mod Sweep
 pub mod Order
-pub mod Checked
+pub mod CheckedPlaces

@@ -22,4 +22,4 @@ mod sweep;
 
 pub use complete::is_complete;
 pub use no_order::NoOrder;
-pub use search::{DocAnswer, answer, answer_among};
+pub use search::{DocAnswer, OrderAmong, answer, answer_among};

@@ -1,9 +1,8 @@
-ghost use Rattle.std.specs.Prelude.{◌≡◌, IfOk, IfSome, MatchOption};
+ghost use Rattle.std.specs.Prelude.{◌≡◌, IfOk, MatchOption};
 ghost use Rattle.doc_register.specs.declared.state.Conflicts.{Conflicts as Reading};
-ghost use Rattle.places.specs.Places.{AreValid};
 ghost use Rattle.doc_check.specs.NoOrders.{HasNoOrder};
-ghost use Rattle.doc_check.specs.Search.{FindsUnpaired, FollowsReplies, IsAbout, id_of, conflicts_of, records_of};
-ghost use Rattle.doc_check.specs.aids.Checked.{IsChecked};
+ghost use Rattle.doc_check.specs.Search.{FindsUnpaired, FollowsReplies, IsAbout, IsOrderFor, id_of, conflict_mode_of, records_of};
+ghost use Rattle.doc_check.specs.aids.CheckedPlaces.{IsChecked};
 ghost use Rattle.doc_check.specs.aids.Sweep.{IsOfSweep};
 
 use crate::complete::is_complete;
@@ -12,7 +11,7 @@ use crate::order::order_of;
 use crate::reply_order::reply_order;
 use crate::stretches::Stretches;
 use crate::sweep::sweep;
-use completing::{complete_by_rules, search_forward};
+use completing::{ForwardSearch, complete_by_rules, search_forward};
 use doc_register::Conflicts;
 use events::{Rec, Seen};
 use places::{Broken, DocWitness, Place};
@@ -27,6 +26,16 @@ pub enum DocAnswer {
     Found(DocWitness),
     /// No order was found, and there is none of the answered calls alone.
     NotFound(NoOrder),
+}
+
+/// The result of the search for a document that knows which pairs other documents use.
+#[derive(Debug, Drop)]
+pub enum OrderAmong {
+    /// An order that explains its calls.
+    Order(DocWitness),
+    /// No order was found, which says nothing. If the search got anywhere, the position of the reply at which it
+    /// was stuck: the latest such that all answered calls with an earlier reply had a place.
+    Stuck(Option<usize>),
 }
 
 impl DocAnswer {
@@ -52,7 +61,7 @@ impl DocAnswer {
 
     /// Returns how conflicts are read.
     pub fn conflicts(&self) -> Conflicts
-        ensures { result ≡ conflicts_of self.now }
+        ensures { result ≡ conflict_mode_of self.now }
     {
         match self {
             DocAnswer::Found(witness) => witness.conflicts(),
@@ -83,7 +92,7 @@ fn sweep_order(alloc: Global, records: &[Rec]) -> Result<Option<Vec<Place>>, NoM
 
 // The result of the check of places: they are an order of the document's calls, or they are not.
 #[derive(Drop)]
-enum Checked {
+enum CheckedPlaces {
     Valid(DocWitness),
     // With the id and the records again.
     Invalid(DocId, Vec<Rec>),
@@ -96,14 +105,14 @@ fn check_places(
     recs: Vec<Rec>,
     places: Vec<Place>,
     conflicts: Conflicts,
-) -> Result<Checked, NoMemory>
+) -> Result<CheckedPlaces, NoMemory>
     ensures { IfOk result (IsChecked id recs.items places.items conflicts) }
 {
     match DocWitness::check(alloc, id, recs, places, conflicts) {
-        Ok(witness) => Ok(Checked::Valid(witness)),
+        Ok(witness) => Ok(CheckedPlaces::Valid(witness)),
         Err((fault, id, recs, _)) => match fault {
             Broken::NoMemory => Err(AllocError),
-            _ => Ok(Checked::Invalid(id, recs)),
+            _ => Ok(CheckedPlaces::Invalid(id, recs)),
         },
     }
 }
@@ -123,16 +132,14 @@ fn answer_forward(
     if is_complete(&recs, conflicts) {
         return Ok(DocAnswer::NotFound(NoOrder::of(id, recs, conflicts)));
     }
-    // How far the search came is of no use here.
-    let mut stuck = None;
-    match search_forward(alloc, &recs, seen, conflicts, &[], &[], &mut stuck)? {
-        Some(places) => match check_places(alloc, id, recs, places, conflicts)? {
-            Checked::Valid(witness) => Ok(DocAnswer::Found(witness)),
-            Checked::Invalid(id, recs) => {
+    match search_forward(alloc, &recs, seen, conflicts, &[], &[])? {
+        ForwardSearch::Found(places) => match check_places(alloc, id, recs, places, conflicts)? {
+            CheckedPlaces::Valid(witness) => Ok(DocAnswer::Found(witness)),
+            CheckedPlaces::Invalid(id, recs) => {
                 Ok(DocAnswer::NotFound(NoOrder::of(id, recs, conflicts)))
             }
         },
-        None => Ok(DocAnswer::NotFound(NoOrder::of(id, recs, conflicts))),
+        ForwardSearch::Stuck(_) => Ok(DocAnswer::NotFound(NoOrder::of(id, recs, conflicts))),
     }
 }
 
@@ -150,8 +157,8 @@ fn answer_by_rules(
 {
     match complete_by_rules(alloc, &recs, seen, conflicts)? {
         Some(places) => match check_places(alloc, id, recs, places, conflicts)? {
-            Checked::Valid(witness) => Ok(DocAnswer::Found(witness)),
-            Checked::Invalid(id, recs) => answer_forward(alloc, id, recs, seen, conflicts),
+            CheckedPlaces::Valid(witness) => Ok(DocAnswer::Found(witness)),
+            CheckedPlaces::Invalid(id, recs) => answer_forward(alloc, id, recs, seen, conflicts),
         },
         None => answer_forward(alloc, id, recs, seen, conflicts),
     }
@@ -170,8 +177,8 @@ fn answer_by_sweep(
 {
     match sweep_order(alloc, &recs)? {
         Some(places) => match check_places(alloc, id, recs, places, conflicts)? {
-            Checked::Valid(witness) => Ok(DocAnswer::Found(witness)),
-            Checked::Invalid(id, recs) => answer_by_rules(alloc, id, recs, seen, conflicts),
+            CheckedPlaces::Valid(witness) => Ok(DocAnswer::Found(witness)),
+            CheckedPlaces::Invalid(id, recs) => answer_by_rules(alloc, id, recs, seen, conflicts),
         },
         None => answer_by_rules(alloc, id, recs, seen, conflicts),
     }
@@ -201,18 +208,14 @@ pub fn answer(
 {
     let places = reply_order(alloc, &recs)?;
     match check_places(alloc, id, recs, places, conflicts)? {
-        Checked::Valid(witness) => Ok(DocAnswer::Found(witness)),
-        Checked::Invalid(id, recs) => answer_by_sweep(alloc, id, recs, seen, conflicts),
+        CheckedPlaces::Valid(witness) => Ok(DocAnswer::Found(witness)),
+        CheckedPlaces::Invalid(id, recs) => answer_by_sweep(alloc, id, recs, seen, conflicts),
     }
 }
 
 /// Returns an order of a document's calls that explains them, if the search forward in time finds one. This
 /// search knows which pairs the documents of the shard use, by rising pair; the document's own may be among
-/// them. It invents pairs only if one is left.
-///
-/// If nothing is found, this says nothing, but `stuck` is how far the search came, of which no clause speaks:
-/// the latest reply such that all answered calls with an earlier reply had a position. If memory is refused,
-/// the id and the records are dropped.
+/// them. It invents pairs only if one is left. If memory is refused, the id and the records are dropped.
 pub fn answer_among(
     alloc: Global,
     id: DocId,
@@ -220,22 +223,19 @@ pub fn answer_among(
     seen: Seen,
     conflicts: Conflicts,
     used: &[Pair],
-    stuck: &mut Option<usize>,
-) -> Result<Option<DocWitness>, NoMemory>
+) -> Result<OrderAmong, NoMemory>
     // An order that is found is of the id, the records and the reading that were passed in, and valid for
     // them.
-    ensures { IfOk result (λ found. IfSome found (λ w. (w.doc ≡ id) × (w.records ≡ recs.items)
-        × (w.conflicts ≡ conflicts) × AreValid conflicts recs.items w.places)) }
+    ensures { IfOk result (IsOrderFor id recs.items conflicts) }
 {
-    *stuck = None;
     if is_complete(&recs, conflicts) {
-        return Ok(None);
+        return Ok(OrderAmong::Stuck(None));
     }
-    match search_forward(alloc, &recs, seen, conflicts, used, &[], stuck)? {
-        Some(places) => match check_places(alloc, id, recs, places, conflicts)? {
-            Checked::Valid(witness) => Ok(Some(witness)),
-            Checked::Invalid(..) => Ok(None),
+    match search_forward(alloc, &recs, seen, conflicts, used, &[])? {
+        ForwardSearch::Found(places) => match check_places(alloc, id, recs, places, conflicts)? {
+            CheckedPlaces::Valid(witness) => Ok(OrderAmong::Order(witness)),
+            CheckedPlaces::Invalid(..) => Ok(OrderAmong::Stuck(None)),
         },
-        None => Ok(None),
+        ForwardSearch::Stuck(furthest) => Ok(OrderAmong::Stuck(furthest)),
     }
 }

@@ -17,7 +17,7 @@ use Rattle.version_pair.proofs.ListLemmas.{same_some}
 use Rattle.events.specs.Heard.{taken_by}
 use Rattle.doc_register.specs.Register.{condition_of, value_of}
 use Rattle.evidence.specs.Evidence.{HasNoWriter, IsFound, IsPairTwice, IsPerformed, IsStaleGet, IsStaleSwap, IsWriter, MayTake}
-use Rattle.evidence.specs.aids.AnsweredCalls.{AsksTooLittle, IsFoundGet, IsPerformedWrite}
+use Rattle.evidence.specs.aids.CallsWithPairs.{AsksTooLittle, IsFoundGet, IsPerformedWrite}
 use Rattle.evidence.specs.declared.answered_call.FoundGet.{FoundGet}
 use Rattle.evidence.specs.declared.answered_call.PerformedWrite.{PerformedWrite}
 use Rattle.evidence.proofs.CallsByNumber.{same_shard}

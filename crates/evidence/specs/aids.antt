@@ -1,2 +1,2 @@
-pub mod AnsweredCalls
+pub mod CallsWithPairs
 pub mod RuledOutCalls

@@ -1,7 +1,7 @@
 ghost use Rattle.std.specs.Prelude.{◌<◌, ◌↔◌, IsTrue, List, None, ℕ, length};
 ghost use Rattle.doc_register.specs.Run.{pair_taken};
 ghost use Rattle.events.specs.Events.{IsHistory, PassesAt, is_call_of};
-ghost use Rattle.evidence.specs.aids.AnsweredCalls.{IsFoundAs, IsPerformedAs};
+ghost use Rattle.evidence.specs.aids.CallsWithPairs.{IsFoundAs, IsPerformedAs};
 
 use doc_register::{Op, Reply};
 use events::{Event, History};

@@ -3,7 +3,7 @@ ghost use Rattle.version_pair.specs.PairOrder.{IsBelow};
 ghost use Rattle.events.specs.Events.{IsHistory, PassesAt, is_call_of};
 ghost use Rattle.doc_register.specs.Register.{value_of};
 ghost use Rattle.evidence.specs.Evidence.{HasNoWriter, Holds, IsOfCalls, IsPairTwice, IsStaleGet, IsStaleSwap, IsWriter, MayTake};
-ghost use Rattle.evidence.specs.aids.AnsweredCalls.{AsksTooLittle};
+ghost use Rattle.evidence.specs.aids.CallsWithPairs.{AsksTooLittle};
 
 use crate::answered_call::{
     FoundGet, PerformedWrite, are_of_one_document, found_get, performed_write,

@@ -1,7 +1,7 @@
 //! The search for evidence. What is found is checked again before it is returned, so that only evidence that
 //! holds is returned.
 
-mod answered_calls;
+mod calls_with_pairs;
 mod lost_updates;
 mod pairs_taken_twice;
 mod stale_reads;
@@ -14,7 +14,7 @@ use crate::holding::refutes;
 use crate::refuted::Refuted;
 use crate::ruled_out_calls::least_ruled_out;
 use crate::ruling_out::RulingOut;
-use answered_calls::AnsweredCalls;
+use calls_with_pairs::CallsWithPairs;
 use doc_register::Conflicts;
 use events::History;
 use lost_updates::least_stale_swap;
@@ -63,7 +63,7 @@ pub fn find_evidence(
     // It is of one or two calls.
     ensures of_calls { IfOk result (λ found. IfSome found IsOfCalls) }
 {
-    let calls = AnsweredCalls::of(alloc, history)?;
+    let calls = CallsWithPairs::of(alloc, history)?;
     let twice = least_pair_twice(alloc, &calls.writes)?;
     if let Some(evidence) = confirm(alloc, history, twice, conflicts)? {
         return Ok(Some(evidence));

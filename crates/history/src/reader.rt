@@ -8,8 +8,8 @@ ghost use Rattle.history.specs.Text.{IsHistoryText};
 
 use crate::line_event::take_said;
 use api_lines::{
-    LineFault, LineFields, LineReader, LineRoom, ReadFault, given_fields, given_line,
-    given_unescaped_fields, line_fields, line_said, take_text,
+    LineFault, LineFields, LineReader, LineRoom, ReadFault, given_fields, given_line, line_fields,
+    line_said, take_text,
 };
 use events::{HashKeys, History};
 use std::alloc::Global;
@@ -28,50 +28,8 @@ fn take_fields(history: &mut History, line: &LineFields<'_>) -> Result<(), LineF
     }
 }
 
-// Takes the value of one more line, by way of `serde_json`. A line that is refused leaves the history as it
-// was.
-fn take_value(
-    alloc: Global,
-    history: &mut History,
-    number: u64,
-    line: &[u8],
-) -> Result<(), LineFault>
-    ensures ok { OnOk result (read_line takes_value number history.old line.now ≡ Ok history.new) }
-    ensures within { OnOk result (number ≤ most_lines) }
-    ensures err { IfErr result (λ fault. IfReported fault
-        (λ cause. read_line takes_value number history.old line.now ≡ Err cause)) }
-    ensures unchanged { OnErr result (history.new ≡ history.old) }
-{
-    match given_line(alloc, number, line) {
-        Ok(Some(value)) => take_fields(history, &line_fields(&value)),
-        Ok(None) => Ok(()),
-        Err(fault) => Err(fault),
-    }
-}
-
-// Takes the line with this number, which the quick way doesn't read. A line that is refused leaves the
-// history as it was.
-fn take_other_line(
-    alloc: Global,
-    history: &mut History,
-    room: &mut LineRoom,
-    number: u64,
-    line: &[u8],
-) -> Result<(), LineFault>
-    ensures ok { OnOk result (read_line takes_value number history.old line.now ≡ Ok history.new) }
-    ensures within { OnOk result (number ≤ most_lines) }
-    ensures err { IfErr result (λ fault. IfReported fault
-        (λ cause. read_line takes_value number history.old line.now ≡ Err cause)) }
-    ensures unchanged { OnErr result (history.new ≡ history.old) }
-{
-    let mut fields = LineFields::absent();
-    if given_unescaped_fields(number, line, room, &mut fields) {
-        return take_fields(history, &fields);
-    }
-    take_value(alloc, history, number, line)
-}
-
-// Takes the line with this number. A line that is refused leaves the history as it was.
+// Takes the line with this number, by way of `serde_json` if its fields aren't found without. A line that is
+// refused leaves the history as it was.
 fn take_line(
     alloc: Global,
     history: &mut History,
@@ -86,10 +44,14 @@ fn take_line(
     ensures unchanged { OnErr result (history.new ≡ history.old) }
 {
     let mut fields = LineFields::absent();
-    if given_fields(number, line, &mut fields) {
+    if given_fields(number, line, room, &mut fields) {
         return take_fields(history, &fields);
     }
-    take_other_line(alloc, history, room, number, line)
+    match given_line(alloc, number, line) {
+        Ok(Some(value)) => take_fields(history, &line_fields(&value)),
+        Ok(None) => Ok(()),
+        Err(fault) => Err(fault),
+    }
 }
 
 /// A reader that takes a history line by line.

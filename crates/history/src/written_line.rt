@@ -1,91 +1,62 @@
-ghost use Rattle.std.specs.Prelude.{◌≡◌, ◌<◌, ◌^◌, ◌≤◌, ◌++◌, IfOk, OnOk, Some, codes, false, length};
+ghost use Rattle.std.specs.Prelude.{◌≡◌, ◌<◌, ◌^◌, ◌≤◌, ◌++◌, IfOk, OnOk, false, length};
 ghost use Rattle.serde_json.specs.Data.{depth};
 ghost use Rattle.serde_json.specs.Read.{max_depth};
 ghost use Rattle.serde_json.specs.View.{view};
 ghost use Rattle.serde_json.specs.Written.{has_float};
-ghost use Rattle.api_lines.specs.Written.{number_member};
+ghost use Rattle.api_lines.specs.Objects.{members_of};
 ghost use Rattle.events.specs.declared.event.Event.TheVariants.{Call, Reply as Answered};
-ghost use Rattle.history.specs.Written.{call_end, call_value as value_of_call, call_with, condition_members, lost_value as value_of_loss, reply_value as value_of_reply};
-ghost use Rattle.history.specs.aids.Writing.{IsInRange, IsLineAdded};
+ghost use Rattle.history.specs.Written.{call_value as value_of_call, lost_value as value_of_loss, op_name, reply_value as value_of_reply};
+ghost use Rattle.history.specs.aids.Writing.{IsInRange, IsLineAdded, OpFits, with_condition, with_shard, with_value};
 
-use api_lines::write_reply;
+use api_lines::{LineObject, write_reply};
 use doc_register::{Op, Reply};
-use serde_json::{Value, json};
+use serde_json::Value;
 use std::alloc::Global;
 use version_pair::{DocId, NoMemory, Pair};
 
-// The line of a call whose operation has no number.
-fn plain_call(alloc: Global, no: u64, shard: u32, id: &str, op: &str) -> Result<Value, NoMemory>
-    ensures { IfOk result (λ value. view value ≡ call_with id.now (call_end no op.now shard)) }
+// Returns the name of an operation. A number is copied so that its range is known from here on.
+fn op_name(op: &Op) -> &'static str
+    ensures name { result.now ≡ op_name op.now }
+    ensures fits { OpFits op.now }
 {
-    if shard == 0 {
-        json!(in alloc; {"e": "call", "id": id, "n": no, "op": op})
-    } else {
-        json!(in alloc; {"e": "call", "id": id, "n": no, "op": op, "shard": shard})
+    match *op {
+        Op::Get => "get",
+        Op::Index { k: _number, .. } => "index",
+        Op::Delete { .. } => "delete",
+        Op::Create { k: _number } => "create",
     }
 }
 
-// The line of a call that writes a number without a condition.
-fn numbered_call(
-    alloc: Global,
-    no: u64,
-    shard: u32,
-    id: &str,
-    op: &str,
-    k: u64,
-) -> Result<Value, NoMemory>
-    ensures { IfOk result (λ value. view value ≡ call_with id.now
-        (number_member (codes "k") k (call_end no op.now shard))) }
+// Returns the line with the two numbers of a condition, if there is one.
+fn with_condition(line: LineObject, condition: Option<Pair>) -> Result<LineObject, NoMemory>
+    ensures { IfOk result (λ made. members_of made ≡ with_condition condition (members_of line)) }
 {
-    if shard == 0 {
-        json!(in alloc; {"e": "call", "id": id, "k": k, "n": no, "op": op})
-    } else {
-        json!(in alloc; {"e": "call", "id": id, "k": k, "n": no, "op": op, "shard": shard})
+    match condition {
+        None => Ok(line),
+        Some(pair) => line
+            .number("if_primary_term", pair.term())?
+            .number("if_seq_no", pair.seq()),
     }
 }
 
-// The line of a delete with a condition.
-fn conditioned_delete(
-    alloc: Global,
-    no: u64,
-    shard: u32,
-    id: &str,
-    cond: Pair,
-) -> Result<Value, NoMemory>
-    ensures { IfOk result (λ value. view value ≡ call_with id.now
-        (condition_members (Some cond) (call_end no (codes "delete") shard))) }
+// Returns the line with the number that is written, if there is one.
+fn with_value(line: LineObject, value: Option<u64>) -> Result<LineObject, NoMemory>
+    ensures { IfOk result (λ made. members_of made ≡ with_value value (members_of line)) }
 {
-    let term = cond.term();
-    let seq = cond.seq();
-    if shard == 0 {
-        json!(in alloc; {"e": "call", "id": id, "if_primary_term": term, "if_seq_no": seq,
-            "n": no, "op": "delete"})
-    } else {
-        json!(in alloc; {"e": "call", "id": id, "if_primary_term": term, "if_seq_no": seq,
-            "n": no, "op": "delete", "shard": shard})
+    match value {
+        None => Ok(line),
+        Some(k) => line.number("k", k),
     }
 }
 
-// The line of an index with a condition.
-fn conditioned_index(
-    alloc: Global,
-    no: u64,
-    shard: u32,
-    id: &str,
-    k: u64,
-    cond: Pair,
-) -> Result<Value, NoMemory>
-    ensures { IfOk result (λ value. view value ≡ call_with id.now
-        (condition_members (Some cond) (number_member (codes "k") k (call_end no (codes "index") shard)))) }
+// Returns the line with the shard, which isn't named if it is 0.
+fn with_shard(line: LineObject, shard: u32) -> Result<LineObject, NoMemory>
+    ensures { IfOk result (λ made. members_of made ≡ with_shard shard (members_of line)) }
 {
-    let term = cond.term();
-    let seq = cond.seq();
     if shard == 0 {
-        json!(in alloc; {"e": "call", "id": id, "if_primary_term": term, "if_seq_no": seq,
-            "k": k, "n": no, "op": "index"})
+        Ok(line)
     } else {
-        json!(in alloc; {"e": "call", "id": id, "if_primary_term": term, "if_seq_no": seq,
-            "k": k, "n": no, "op": "index", "shard": shard})
+        line.number("shard", shard as u64)
     }
 }
 
@@ -101,18 +72,13 @@ pub fn call_value(
     ensures in_range { IsInRange (Call shard no id.now op.now) }
 {
     let id = id.as_str();
-    match *op {
-        Op::Get => plain_call(alloc, no, shard, id, "get"),
-        Op::Index { k, cond } => match cond {
-            None => numbered_call(alloc, no, shard, id, "index", k),
-            Some(cond) => conditioned_index(alloc, no, shard, id, k, cond),
-        },
-        Op::Delete { cond } => match cond {
-            None => plain_call(alloc, no, shard, id, "delete"),
-            Some(cond) => conditioned_delete(alloc, no, shard, id, cond),
-        },
-        Op::Create { k } => numbered_call(alloc, no, shard, id, "create", k),
-    }
+    let name = op_name(op);
+    let begun = LineObject::new(alloc).text("e", "call")?.text("id", id)?;
+    let conditioned = with_condition(begun, op.condition())?;
+    let valued = with_value(conditioned, op.value())?;
+    let named = valued.number("n", no)?.text("op", name)?;
+    let line = with_shard(named, shard)?;
+    Ok(line.into_value())
 }
 
 /// Returns the line of a reply about the document, as a value.
@@ -121,14 +87,20 @@ pub fn reply_value(alloc: Global, no: u64, id: &DocId, reply: Reply) -> Result<V
     ensures in_range { IsInRange (Answered no reply) }
 {
     let (status, body) = write_reply(alloc, id, &reply)?;
-    json!(in alloc; {"body": body, "e": "reply", "n": no, "status": status})
+    let line = LineObject::new(alloc)
+        .with("body", body)?
+        .text("e", "reply")?
+        .number("n", no)?
+        .number("status", status as u64)?;
+    Ok(line.into_value())
 }
 
 /// Returns the line of a lost call, as a value.
 pub fn lost_value(alloc: Global, no: u64) -> Result<Value, NoMemory>
     ensures { IfOk result (λ value. view value ≡ value_of_loss no) }
 {
-    json!(in alloc; {"e": "lost", "n": no})
+    let line = LineObject::new(alloc).text("e", "lost")?.number("n", no)?;
+    Ok(line.into_value())
 }
 
 /// Adds a value to a text as a line.

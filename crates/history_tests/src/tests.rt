@@ -3,5 +3,4 @@ mod front;
 mod pushes;
 mod reader;
 mod seen;
-mod testing;
 mod writer;

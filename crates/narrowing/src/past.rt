@@ -36,14 +36,8 @@ fn state_shown(op: Op, reply: Reply) -> DocState {
 // The same, if the reply is before the index.
 fn state_shown_before(found: Rec, place: usize) -> DocState {
     match found.heard {
-        Some(heard) => {
-            if heard.0 < place {
-                state_shown(found.op, heard.1)
-            } else {
-                DocState::Never
-            }
-        }
-        None => DocState::Never,
+        Some(heard) if heard.0 < place => state_shown(found.op, heard.1),
+        _ => DocState::Never,
     }
 }
 
@@ -63,18 +57,18 @@ fn is_answered_after(found: Rec, place: usize) -> bool {
     found.heard.is_some_and(|heard| heard.0 > place)
 }
 
-// The number of calls before a window that has all calls that were open at the index.
+// The number of calls before a window that has all calls that were open at the index. (There are none before the
+// first call.)
 fn calls_before(records: &[Rec], place: usize) -> usize {
     let called = records.partition_point(|found| found.call_at <= place);
+    let mut first = called;
     for rec in called.saturating_sub(MOST_OPEN)..called {
-        if records
-            .get(rec)
-            .is_some_and(|found| is_answered_after(*found, place))
-        {
-            return rec.saturating_sub(MARGIN);
+        if is_answered_after(records[rec], place) {
+            first = rec;
+            break;
         }
     }
-    called.saturating_sub(MARGIN)
+    first.saturating_sub(MARGIN)
 }
 
 // Whether the call may change the document from this index on, if it was left in this state.
@@ -121,9 +115,7 @@ impl Past {
             return Ok(());
         };
         for rec in self.calls..calls {
-            if let Some(found) = records.get(rec) {
-                self.open.push(*found)?;
-            }
+            self.open.push(records[rec])?;
         }
         self.calls = self.calls.max(calls);
         let begin = first.call_at;

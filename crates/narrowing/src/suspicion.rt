@@ -2,12 +2,6 @@ use events::{History, Rec};
 use std::alloc::Global;
 use version_pair::{NoMemory, Pair};
 
-// The pair that is given to the call, with the index of its reply.
-fn given_to(found: Rec) -> Option<(usize, Pair)> {
-    let (place, reply) = found.heard?;
-    Some((place, reply.pair_taken()?))
-}
-
 // The pair that the reply to the call shows, with the index of the reply.
 fn shown_to(found: Rec) -> Option<(usize, Pair)> {
     let (place, reply) = found.heard?;
@@ -16,18 +10,7 @@ fn shown_to(found: Rec) -> Option<(usize, Pair)> {
 
 // The lesser of two indices, the second of which may be missing.
 fn earlier(place: usize, other: Option<usize>) -> Option<usize> {
-    match other {
-        Some(least) => Some(least.min(place)),
-        None => Some(place),
-    }
-}
-
-// The greater of two pairs, the second of which may be missing.
-fn greater(pair: Pair, other: Option<Pair>) -> Pair {
-    match other {
-        Some(greatest) => { if greatest > pair { greatest } else { pair } }
-        None => pair,
-    }
+    Some(other.map_or(place, |least| least.min(place)))
 }
 
 // The replies of a document that show a pair, by their indices.
@@ -42,19 +25,13 @@ fn shown_pairs(alloc: Global, records: &[Rec]) -> Result<Vec<(usize, Pair)>, NoM
     Ok(shown)
 }
 
-// The pair that is shown next, if that is before the index.
-fn shown_before(shown: &[(usize, Pair)], next: usize, place: usize) -> Option<Pair> {
-    let entry = *shown.get(next)?;
-    if entry.0 < place { Some(entry.1) } else { None }
-}
-
 // The index of the reply to the call, if it shows a pair below this one.
 fn shown_below(found: Rec, greatest: Option<Pair>) -> Option<usize> {
     let (place, pair) = shown_to(found)?;
-    if greater(pair, greatest) == pair {
-        None
-    } else {
+    if Some(pair) < greatest {
         Some(place)
+    } else {
+        None
     }
 }
 
@@ -66,11 +43,12 @@ fn first_below(alloc: Global, records: &[Rec]) -> Result<Option<usize>, NoMemory
     let mut first = None;
     for found in records {
         for next in passed..shown.len() {
-            let Some(pair) = shown_before(&shown, next, found.call_at) else {
+            let (place, pair) = shown[next];
+            if place >= found.call_at {
                 break;
-            };
-            greatest = Some(greater(pair, greatest));
-            passed = next.saturating_add(1);
+            }
+            greatest = greatest.max(Some(pair));
+            passed = next + 1;
         }
         if let Some(place) = shown_below(*found, greatest) {
             first = earlier(place, first);
@@ -86,8 +64,8 @@ fn note_given(
     records: &[Rec],
 ) -> Result<(), NoMemory> {
     for found in records {
-        if let Some(entry) = given_to(*found) {
-            given.push(((shard, entry.1), entry.0))?;
+        if let (Some(heard), Some(pair)) = (found.heard, found.pair_taken()) {
+            given.push(((shard, pair), heard.0))?;
         }
     }
     Ok(())

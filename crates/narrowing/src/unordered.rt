@@ -3,7 +3,7 @@ ghost use Rattle.events.specs.Events.{documents_of};
 
 use crate::past::Past;
 use crate::suspicion::first_contradiction;
-use crate::window::window_of;
+use crate::window::{later, window_of};
 use doc_check::{DocAnswer, answer};
 use doc_register::Conflicts;
 use events::{Front, History, Rec, Seen};
@@ -19,17 +19,12 @@ struct Unordered<'a> {
     conflicts: Conflicts,
 }
 
-// The index of the reply to the call.
-fn reply_place(found: Rec) -> Option<usize> {
-    found.heard.map(|heard| heard.0)
-}
-
 // The indices of the replies to the calls of a document, rising.
 fn reply_places(alloc: Global, records: &[Rec]) -> Result<Vec<usize>, NoMemory> {
     let mut places = Vec::new(alloc);
     for found in records {
-        if let Some(place) = reply_place(*found) {
-            places.push(place)?;
+        if let Some(heard) = found.heard {
+            places.push(heard.0)?;
         }
     }
     places.sort_unstable();
@@ -50,27 +45,23 @@ impl Unordered<'_> {
     // The index of the reply at which the search seems to fail first. It is found by bisection over the
     // replies; each time only the calls are searched from shortly before the last reply with an order on.
     fn first_failing(&self, alloc: Global) -> Result<Option<usize>, NoMemory> {
-        let places = reply_places(alloc, self.records)?;
+        let replies = reply_places(alloc, self.records)?;
         let mut past = Past::new(alloc);
-        // With so few replies there is an order, with so many there is none.
-        let mut few = 0usize;
-        let mut many = places.len();
+        // There is an order up to the reply before these, and none up to the last of them.
+        let mut places = replies.as_slice();
         for _ in 0..usize::BITS {
-            let half = few.saturating_add(many.saturating_sub(few) / 2);
-            if half == few {
-                break;
-            }
-            let Some(place) = places.get(half.saturating_sub(1)) else {
+            let (before, after) = places.split_at(places.len() / 2);
+            let Some(place) = before.last() else {
                 break;
             };
             if self.has_order_to(alloc, &past, *place)? {
                 past.advance(self.records, *place, self.conflicts)?;
-                few = half;
+                places = after;
             } else {
-                many = half;
+                places = before;
             }
         }
-        Ok(places.get(many.saturating_sub(1)).copied())
+        Ok(places.last().copied())
     }
 }
 
@@ -143,7 +134,7 @@ fn narrow(
     suspect: Option<usize>,
 ) -> Result<Option<usize>, NoMemory> {
     if history.docs() == 1 {
-        let end = suspect.map(|place| place.saturating_add(1));
+        let end = suspect.map(|place| later(place, 1));
         return first_failing_alone(alloc, &front_to(history, end), conflicts);
     }
     let seen = history.seen();

@@ -19,30 +19,28 @@ fn change_to(state: DocState) -> Option<Rec> {
 // document.
 fn reaching(found: Rec, state: DocState, conflicts: Conflicts) -> Option<Rec> {
     match found.heard {
-        Some((_, Reply::Indexed { pair, .. } | Reply::Deleted { pair, .. })) => {
-            if exceeds(pair, state) {
-                Some(found)
-            } else {
-                None
-            }
-        }
+        None => Some(found),
+        Some((_, Reply::Indexed { pair, .. } | Reply::Deleted { pair, .. }))
+            if exceeds(pair, state) => { Some(found) }
         Some((_, Reply::Conflict)) if conflicts == Conflicts::Maybe => Some(Rec {
             heard: None,
             ..found
         }),
-        Some((_, Reply::Conflict | Reply::Found { .. } | Reply::Missing)) => None,
-        None => Some(found),
+        Some(_) => None,
     }
+}
+
+/// Returns the index so many events later. (No history has as many events as there are indices.)
+pub fn later(place: usize, by: usize) -> usize {
+    place.saturating_add(by)
 }
 
 // Adds the call, with two indices left free before all others for the change that brings the document to its
 // state.
 fn push_later(window: &mut Vec<Rec>, found: Rec) -> Result<(), NoMemory> {
     window.push(Rec {
-        call_at: found.call_at.saturating_add(2),
-        heard: found
-            .heard
-            .map(|heard| (heard.0.saturating_add(2), heard.1)),
+        call_at: later(found.call_at, 2),
+        heard: found.heard.map(|heard| (later(heard.0, 2), heard.1)),
         ..found
     })?;
     Ok(())
@@ -58,7 +56,7 @@ pub fn window_of(
     place: usize,
     conflicts: Conflicts,
 ) -> Result<Vec<Rec>, NoMemory> {
-    let after = place.saturating_add(1);
+    let after = later(place, 1);
     let mut window = Vec::new(alloc);
     if let Some(change) = change_to(past.state) {
         window.push(change)?;

@@ -20,6 +20,11 @@ h2 { font-size: 19px; margin: 28px 0 8px; break-after: avoid; }
 p { margin: 8px 0; max-width: 90ch; overflow-wrap: anywhere; }
 code, td.mono, svg text { font-family: ui-monospace, 'DejaVu Sans Mono', monospace; }
 p.line { padding: 8px 12px; border: 1px solid var(--edge); border-radius: 6px; max-width: none; font-size: 14px; }
+dl { display: grid; grid-template-columns: max-content 1fr; gap: 2px 16px; margin: 12px 0; font-size: 14px; }
+dt { color: var(--soft); }
+dd { margin: 0; overflow-wrap: anywhere; }
+.scroll { overflow-x: auto; }
+.when { white-space: nowrap; }
 table { border-collapse: collapse; font-size: 14px; }
 th, td { text-align: left; vertical-align: top; padding: 4px 14px 4px 8px; border-bottom: 1px solid var(--edge); overflow-wrap: anywhere; }
 th { color: var(--soft); font-weight: 600; }
@@ -28,6 +33,7 @@ tr { break-inside: avoid; }
 tr.broken td { border-top: 2px solid var(--bad); border-bottom: 2px solid var(--bad); font-weight: 600; }
 tr.broken td:first-child { border-left: 6px solid var(--bad); }
 tr.evidence td:first-child { border-left: 6px double var(--proof); }
+tr.note td { color: var(--soft); font-style: italic; }
 ul { margin: 8px 0; padding-left: 24px; }
 li { overflow-wrap: anywhere; }
 details { margin: 28px 0 0; border-top: 1px solid var(--edge); }
@@ -36,6 +42,7 @@ figure { margin: 12px 0; }
 figcaption { color: var(--soft); font-size: 14px; }
 svg { width: 100%; height: auto; display: block; }
 svg text { font-size: 12px; fill: var(--ink); stroke: var(--paper); stroke-width: 3px; paint-order: stroke; }
+svg g:focus { outline: 2px solid var(--proof); }
 .axis text { fill: var(--soft); }
 .axis line { stroke: var(--edge); }
 .axis .here { stroke: var(--bad); stroke-width: 2; stroke-dasharray: 2 3; }
@@ -46,9 +53,13 @@ svg text { font-size: 12px; fill: var(--ink); stroke: var(--paper); stroke-width
 .bar path { fill: none; stroke-width: 3; stroke: var(--lost); }
 .evidence path { fill: var(--proof); stroke: none; }
 .broken path { stroke: var(--ink); }
+.bar .tick { stroke: var(--ink); stroke-width: 3; }
+.note line { stroke: var(--soft); stroke-dasharray: 6 3; }
+.note path { fill: var(--soft); }
 .version rect { fill: none; stroke: var(--edge); stroke-width: 1.5; }
 .version path { stroke: var(--soft); fill: none; stroke-width: 1.5; }
-@media print { body, table, figcaption, p.line { font-size: 11px; } h1 { font-size: 18px; } h2 { font-size: 14px; } th, td { padding: 2px 8px 2px 4px; } main { padding: 0; max-width: none; } }
+@media (max-width: 760px) { main { padding: 16px 16px 32px; } h1 { font-size: 21px; } .scroll table { min-width: 720px; } }
+@media print { .scroll { overflow: visible; } body, table, figcaption, p.line { font-size: 11px; } h1 { font-size: 18px; } h2 { font-size: 14px; } th, td { padding: 2px 8px 2px 4px; } main { padding: 0; max-width: none; } }
 "#;
 
 const BODY_START: &str = r#"</style>
@@ -69,6 +80,16 @@ const TITLE_END: &str = "</h1>\n";
 const LINE_START: &str = r#"<p class="line"><code>"#;
 
 const LINE_END: &str = "</code></p>\n";
+
+const FACTS_START: &str = "<dl>\n";
+
+const FACT_START: &str = "<dt>";
+
+const FACT_BREAK: &str = "</dt><dd>";
+
+const FACT_END: &str = "</dd>\n";
+
+const FACTS_END: &str = "</dl>\n";
 
 const HEADING_START: &str = "<h2>";
 
@@ -93,12 +114,17 @@ const FOLD_OPEN: &str = "</summary>\n";
 
 const FOLD_END: &str = "</details>\n";
 
-const CALLS_START: &str = r#"<table>
+const CALLS_START: &str = r#"<div class="scroll"><table>
 <thead><tr><th></th><th>line</th><th>call</th><th>asked</th><th>answered</th><th>open at the same time</th></tr></thead>
 <tbody>
 "#;
 
-const ORDER_START: &str = r#"<table>
+const CLIENT_CALLS_START: &str = r#"<div class="scroll"><table>
+<thead><tr><th></th><th>line</th><th>call</th><th>client</th><th>asked</th><th>answered</th><th>open at the same time</th></tr></thead>
+<tbody>
+"#;
+
+const ORDER_START: &str = r#"<div class="scroll"><table>
 <thead><tr><th>call</th><th>asked</th><th>the document after it</th></tr></thead>
 <tbody>
 "#;
@@ -109,21 +135,31 @@ const BROKEN_ROW_START: &str = r#"<tr class="broken"><td>"#;
 
 const EVIDENCE_ROW_START: &str = r#"<tr class="evidence"><td>"#;
 
+const NOTE_ROW_START: &str = r#"<tr class="note"><td>"#;
+
 const CELL_BREAK: &str = r#"</td><td class="mono">"#;
+
+const WIDE_CELL: &str = r#"</td><td colspan="4">"#;
+
+const WHEN_START: &str = r#"<span class="when">"#;
+
+const WHEN_END: &str = "</span>";
 
 const ROW_END: &str = "</td></tr>\n";
 
 const TABLE_END: &str = r#"</tbody>
-</table>
+</table></div>
 "#;
 
 const DRAWING_START: &str = r#"<figure>
-<svg role="img" aria-label="The calls from left to right by their events" viewBox="0 0 1180 "#;
+<div class="scroll"><svg role="group" aria-label="The calls from left to right by their events" style="min-width: "#;
+
+const DRAWING_BOX: &str = r#"px" viewBox="0 0 "#;
 
 const DRAWING_OPEN: &str = r#"">
 "#;
 
-const DRAWING_END: &str = "</svg>\n";
+const DRAWING_END: &str = "</svg></div>\n";
 
 const CAPTION_START: &str = "<figcaption>";
 
@@ -134,13 +170,17 @@ const CAPTION_END: &str = r#"</figcaption>
 const AXIS_START: &str = r#"<g class="axis">
 "#;
 
-const BAR_START: &str = r#"<g class="bar">"#;
+const BAR_START: &str = r#"<g class="bar" tabindex="0"><title>"#;
 
-const LOST_START: &str = r#"<g class="bar lost">"#;
+const LOST_START: &str = r#"<g class="bar lost" tabindex="0"><title>"#;
 
-const EVIDENCE_START: &str = r#"<g class="bar evidence">"#;
+const EVIDENCE_START: &str = r#"<g class="bar evidence" tabindex="0"><title>"#;
 
-const BROKEN_START: &str = r#"<g class="bar broken">"#;
+const BROKEN_START: &str = r#"<g class="bar broken" tabindex="0"><title>"#;
+
+const NOTE_START: &str = r#"<g class="note" tabindex="0"><title>"#;
+
+const TIP_END: &str = "</title>";
 
 const VERSION_START: &str = r#"<g class="version">"#;
 
@@ -156,6 +196,10 @@ const BOX_HEIGHT: &str = r#"" height=""#;
 
 const HERE_X: &str = r#"<line class="here" x1=""#;
 
+const NOTE_X: &str = r#"<line x1=""#;
+
+const TICK_X: &str = r#"<line class="tick" x1=""#;
+
 const LINE_Y: &str = r#"" y1=""#;
 
 const LINE_TO_X: &str = r#"" x2=""#;
@@ -169,6 +213,8 @@ const CROSS_X: &str = r#"<path d="M-6 -6 L6 6 M-6 6 L6 -6" transform="translate(
 const DIAMOND_X: &str = r#"<path d="M0 -8 L7 0 L0 8 L-7 0 Z" transform="translate("#;
 
 const ARROW_X: &str = r#"<path d="M-8 -6 L0 0 L-8 6" transform="translate("#;
+
+const TRIANGLE_X: &str = r#"<path d="M-6 -10 L6 -10 L0 0 Z" transform="translate("#;
 
 const MARK_Y: &str = " ";
 
@@ -194,6 +240,12 @@ pub enum Markup {
     /// The line of the check.
     LineStart,
     LineEnd,
+    /// The list of what the page is about: a name and a value each.
+    FactsStart,
+    FactStart,
+    FactBreak,
+    FactEnd,
+    FactsEnd,
     HeadingStart,
     HeadingEnd,
     ParagraphStart,
@@ -206,24 +258,34 @@ pub enum Markup {
     FoldStart,
     FoldOpen,
     FoldEnd,
-    /// The table of calls.
+    /// The table of calls, in a box that scrolls by itself.
     CallsStart,
+    /// The table of calls, with those who asked.
+    ClientCallsStart,
     /// The table of an order.
     OrderStart,
     RowStart,
     BrokenRowStart,
     EvidenceRowStart,
+    NoteRowStart,
     CellBreak,
+    /// The break before the last cell of a note's row.
+    WideCell,
+    /// Words that are never broken across lines.
+    WhenStart,
+    WhenEnd,
     RowEnd,
     TableEnd,
-    /// A drawing, up to its height.
+    /// A drawing, in a box that scrolls by itself, up to its least width on a screen.
     DrawingStart,
+    /// Up to its width and its height.
+    DrawingBox,
     DrawingOpen,
     DrawingEnd,
     CaptionStart,
     CaptionEnd,
     AxisStart,
-    /// A call.
+    /// A call, up to the words that are shown if it is pointed at.
     BarStart,
     /// A call without a reply.
     LostStart,
@@ -231,6 +293,10 @@ pub enum Markup {
     EvidenceStart,
     /// The call with the broken reply.
     BrokenStart,
+    /// A note.
+    NoteStart,
+    /// The end of the words that are shown if something is pointed at.
+    TipEnd,
     /// A version of the document.
     VersionStart,
     GroupEnd,
@@ -240,6 +306,10 @@ pub enum Markup {
     BoxHeight,
     /// The line at the broken reply.
     HereX,
+    /// The line at a note.
+    NoteX,
+    /// The moment at which a call takes effect.
+    TickX,
     LineY,
     LineToX,
     LineToY,
@@ -250,6 +320,8 @@ pub enum Markup {
     DiamondX,
     /// An arrow to the right.
     ArrowX,
+    /// A triangle that points down.
+    TriangleX,
     MarkY,
     MarkEnd,
     WordsX,
@@ -270,6 +342,11 @@ pub fn markup_text(markup: Markup) -> &'static str
         Markup::TitleEnd => TITLE_END,
         Markup::LineStart => LINE_START,
         Markup::LineEnd => LINE_END,
+        Markup::FactsStart => FACTS_START,
+        Markup::FactStart => FACT_START,
+        Markup::FactBreak => FACT_BREAK,
+        Markup::FactEnd => FACT_END,
+        Markup::FactsEnd => FACTS_END,
         Markup::HeadingStart => HEADING_START,
         Markup::HeadingEnd => HEADING_END,
         Markup::ParagraphStart => PARAGRAPH_START,
@@ -282,14 +359,20 @@ pub fn markup_text(markup: Markup) -> &'static str
         Markup::FoldOpen => FOLD_OPEN,
         Markup::FoldEnd => FOLD_END,
         Markup::CallsStart => CALLS_START,
+        Markup::ClientCallsStart => CLIENT_CALLS_START,
         Markup::OrderStart => ORDER_START,
         Markup::RowStart => ROW_START,
         Markup::BrokenRowStart => BROKEN_ROW_START,
         Markup::EvidenceRowStart => EVIDENCE_ROW_START,
+        Markup::NoteRowStart => NOTE_ROW_START,
         Markup::CellBreak => CELL_BREAK,
+        Markup::WideCell => WIDE_CELL,
+        Markup::WhenStart => WHEN_START,
+        Markup::WhenEnd => WHEN_END,
         Markup::RowEnd => ROW_END,
         Markup::TableEnd => TABLE_END,
         Markup::DrawingStart => DRAWING_START,
+        Markup::DrawingBox => DRAWING_BOX,
         Markup::DrawingOpen => DRAWING_OPEN,
         Markup::DrawingEnd => DRAWING_END,
         Markup::CaptionStart => CAPTION_START,
@@ -299,6 +382,8 @@ pub fn markup_text(markup: Markup) -> &'static str
         Markup::LostStart => LOST_START,
         Markup::EvidenceStart => EVIDENCE_START,
         Markup::BrokenStart => BROKEN_START,
+        Markup::NoteStart => NOTE_START,
+        Markup::TipEnd => TIP_END,
         Markup::VersionStart => VERSION_START,
         Markup::GroupEnd => GROUP_END,
         Markup::BoxX => BOX_X,
@@ -306,6 +391,8 @@ pub fn markup_text(markup: Markup) -> &'static str
         Markup::BoxWidth => BOX_WIDTH,
         Markup::BoxHeight => BOX_HEIGHT,
         Markup::HereX => HERE_X,
+        Markup::NoteX => NOTE_X,
+        Markup::TickX => TICK_X,
         Markup::LineY => LINE_Y,
         Markup::LineToX => LINE_TO_X,
         Markup::LineToY => LINE_TO_Y,
@@ -313,6 +400,7 @@ pub fn markup_text(markup: Markup) -> &'static str
         Markup::CrossX => CROSS_X,
         Markup::DiamondX => DIAMOND_X,
         Markup::ArrowX => ARROW_X,
+        Markup::TriangleX => TRIANGLE_X,
         Markup::MarkY => MARK_Y,
         Markup::MarkEnd => MARK_END,
         Markup::WordsX => WORDS_X,

@@ -9,7 +9,7 @@ ghost use Rattle.recorded_runs.specs.aids.Recorded.{IsOfRecording, reports_copie
 ghost use Rattle.workload.specs.Plans.{refusal_reported};
 
 use crate::manner::{Manner, Playing};
-use crate::run_fault::{play_fault, stream_fault};
+use crate::run_fault::{fault_of_play, fault_of_run};
 use crate::run_setting::RunSetting;
 use disturbances::{Disturbance, DisturbedCore, DisturbedGroup};
 use events::History;
@@ -111,7 +111,7 @@ fn record_on_threads<T: Threads + Wait + Sync>(
     };
     let pens = match run_clients(rt, alloc, plan, group, &recorder, pens, RUN_POLLS) {
         Ok(pens) => pens,
-        Err(fault) => return Err(stream_fault(fault)),
+        Err(fault) => return Err(fault_of_run(fault)),
     };
     match recorder.close(pens) {
         Ok(history) => Ok(history),
@@ -133,7 +133,7 @@ fn record_in_turns(
 {
     match play_in_turns(alloc, plan, &mut core, RUN_POLLS) {
         Ok(history) => Ok(history),
-        Err(fault) => Err(play_fault(fault)),
+        Err(fault) => Err(fault_of_play(fault)),
     }
 }
 

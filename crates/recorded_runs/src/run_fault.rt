@@ -7,7 +7,7 @@ use stream_io::StreamFault;
 use workload::{PlayFault, RunFault, TargetFault};
 
 /// Returns a fault of a run of clients as one of a stream.
-pub fn stream_fault(fault: RunFault) -> StreamFault
+pub fn fault_of_run(fault: RunFault) -> StreamFault
     ensures { result ≡ stream_fault_of fault }
 {
     match fault {
@@ -19,7 +19,7 @@ pub fn stream_fault(fault: RunFault) -> StreamFault
 }
 
 /// Returns a fault of clients that are played as one of a stream.
-pub fn play_fault(fault: PlayFault) -> StreamFault
+pub fn fault_of_play(fault: PlayFault) -> StreamFault
     ensures { result ≡ stream_fault_of_play fault }
 {
     match fault {

@@ -10,7 +10,7 @@ use Rattle.events.specs.declared.event.Event.{Event}
 use Rattle.events.specs.Refusal.{most_events}
 use Rattle.recorder.specs.declared.clock_view.ClockView.{ClockView}
 use Rattle.recorder.specs.declared.clock_view.ClockView.TheVariants.{Drew, Maker}
-use Rattle.recorder.specs.Clock.{ClockPenState, is_past, pens_of, seat_with, with_joined}
+use Rattle.recorder.specs.Clock.{ClockPenState, is_past, pen_states, seat_with, with_joined}
 use Rattle.recorder.specs.Closing.{has_full}
 use Rattle.recorder.specs.Recordings.{entries_of, lists_of}
 use Rattle.recorder.specs.aids.Drawing.{numbers_of_events}
@@ -20,7 +20,7 @@ use Rattle.std.proofs.lemmas.List.Concat.{flat_map-append}
 use Rattle.std.proofs.Math.Bool.{or-false}
 use Rattle.recorder.specs.Pens.{PenState}
 
-pub lists_push : (pens : List ClockPenState) (pen : ClockPenState) → lists_of (pens_of (pens ++ pen ∷ [])) ≡ lists_of (pens_of pens) ++ pen.pen.list ∷ []
+pub lists_push : (pens : List ClockPenState) (pen : ClockPenState) → lists_of (pen_states (pens ++ pen ∷ [])) ≡ lists_of (pen_states pens) ++ pen.pen.list ∷ []
 lists_push [] pen = refl
 lists_push (p ∷ ps) pen = ap (λ rest. p.pen.list ∷ rest) (lists_push ps pen)
 
@@ -37,18 +37,18 @@ gained_more lists list gained drawn had has =
     ∙ (ap (λ ns. numbers_of (entries_of lists) ++ ns) has
     ∙ (sym (map-append (λ (entry : ℕ × Event). entry.0) (entries_of lists) list) ∙ ap numbers_of (sym (entries_push lists list)))))
 
-full_push : (pens : List ClockPenState) (pen : ClockPenState) → has_full (pens_of (pens ++ pen ∷ [])) ≡ (has_full (pens_of pens) || pen.pen.is_full)
+full_push : (pens : List ClockPenState) (pen : ClockPenState) → has_full (pen_states (pens ++ pen ∷ [])) ≡ (has_full (pen_states pens) || pen.pen.is_full)
 full_push pens pen =
     ap has_full (map_push (λ (p : ClockPenState). p.pen) pens pen)
-    ∙ (list_any-append (λ (p : PenState). p.is_full) (pens_of pens) (pen.pen ∷ []) ∙ ap (λ b. has_full (pens_of pens) || b) (or-false pen.pen.is_full))
+    ∙ (list_any-append (λ (p : PenState). p.is_full) (pen_states pens) (pen.pen ∷ []) ∙ ap (λ b. has_full (pen_states pens) || b) (or-false pen.pen.is_full))
 
 -- where a pen was answered that the recording is full, a number that is no event's was gained
 pub past_gained : (pens : List ClockPenState) (pen : ClockPenState) (gained drawn : List ℕ)
-    → (has_full (pens_of pens) ≡ true → list_any is_past gained ≡ true) → (pen.pen.is_full ≡ true → list_any is_past drawn ≡ true)
-    → has_full (pens_of (pens ++ pen ∷ [])) ≡ true → list_any is_past (gained ++ drawn) ≡ true
+    → (has_full (pen_states pens) ≡ true → list_any is_past gained ≡ true) → (pen.pen.is_full ≡ true → list_any is_past drawn ≡ true)
+    → has_full (pen_states (pens ++ pen ∷ [])) ≡ true → list_any is_past (gained ++ drawn) ≡ true
 past_gained pens pen gained drawn had has full =
     list_any-append is_past gained drawn
-    ∙ by_test (has_full (pens_of pens)) pen.pen.is_full (list_any is_past gained) (list_any is_past drawn) had has (sym (full_push pens pen) ∙ full) where
+    ∙ by_test (has_full (pen_states pens)) pen.pen.is_full (list_any is_past gained) (list_any is_past drawn) had has (sym (full_push pens pen) ∙ full) where
       by_test : (a b c d : Bool) → (a ≡ true → c ≡ true) → (b ≡ true → d ≡ true) → (a || b) ≡ true → (c || d) ≡ true
       by_test true b c d first second some = ap (λ e. e || d) (first refl)
       by_test false b c d first second some = ap (λ e. c || e) (second some) ∙ or-true c

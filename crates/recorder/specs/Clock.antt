@@ -3,10 +3,9 @@
 -- which exist in proofs alone: each pen has a seat with a view, and so has the maker, which started the
 -- recorder and closes it. There are three kinds of step, and a rule that each of them keeps:
 --
--- | kind | whose seat | what becomes of its view | |---|---|---| | split | the maker's | one more seat is
--- split off; the new seat's view is empty | | draw, an atomic addition of 1 | a pen's | it gains the number
--- found | | join | the maker's | it gains the joined seat's numbers, and one more is joined; the joined view
--- is spent |
+-- - a split, by the maker: one more seat is split off, whose view is empty;
+-- - a draw, by a pen, an atomic addition of 1: the view of its seat gains the number found;
+-- - a join, by the maker: its view gains the joined seat's numbers, and the joined view is spent.
 use Rattle.std.specs.Prelude.{◌≡◌, ℕ, ◌+◌, ◌<◌, ◌≤◌, Bool, true, false, not, List, [], ◌∷◌, ◌++◌, length, All, map, nat_lt}
 use Rattle.std.specs.List.{flat_map, list_any, range_with_len}
 use Rattle.std.specs.List.Sorted.{IsPermutation}
@@ -153,6 +152,6 @@ pub record ClockPenState : Type 0 where
 abbrev pub new_clock_pen : TableId → ClockPenState
 new_clock_pen clock = record { pen = new_pen; clock = clock }
 
--- what is known of the pens as of every pen
-abbrev pub pens_of : List ClockPenState → List PenState
-pens_of pens = map (λ pen. pen.pen) pens
+-- the states of the pens, as those of pens of any form: without what is known of the clock word
+abbrev pub pen_states : List ClockPenState → List PenState
+pen_states pens = map (λ pen. pen.pen) pens

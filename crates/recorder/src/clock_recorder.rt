@@ -2,7 +2,7 @@ ghost use Rattle.std.specs.Prelude.{◌≡◌, ◌≢◌, ℕ, ◌<◌, ◌≤�
 ghost use Rattle.events.specs.declared.event.Event.TheVariants.{Call, Reply as Answered, Lost as Missed};
 ghost use Rattle.events.specs.Refusal.{most_events};
 ghost use Rattle.recorder.specs.declared.fault.RecFault.TheVariants as recording;
-ghost use Rattle.recorder.specs.Clock.{new_clock_pen, pens_of};
+ghost use Rattle.recorder.specs.Clock.{new_clock_pen, pen_states};
 ghost use Rattle.recorder.specs.Closing.{IsPenMissing, has_full};
 ghost use Rattle.recorder.specs.Pens.{Records, refusal_of};
 ghost use Rattle.recorder.specs.Recordings.{IsRecordingOf, entries_of, lists_of};
@@ -137,11 +137,11 @@ impl ClockRecorder {
     fn gather(self, alloc: Global, pens: Vec<ClockPen>) -> Result<Vec<Strand>, NoMemory>
         requires mine { All (λ pen. pen.clock ≡ self.clock) pens.items }
         requires all { self.pens ≤ vec_len pens }
-        ensures lists { IfOk result (λ strands. strands.items ≡ lists_of (pens_of pens.items)) }
+        ensures lists { IfOk result (λ strands. strands.items ≡ lists_of (pen_states pens.items)) }
         ensures kept { IfOk result (λ strands. All IsPenList strands.items) }
         ensures dense { IfOk result (λ strands. AreDense strands.items
             × (length (entries_of strands.items) ≤ most_events)) }
-        ensures full { IfOk result (λ strands. has_full (pens_of pens.items) ≡ true
+        ensures full { IfOk result (λ strands. has_full (pen_states pens.items) ≡ true
             → length (entries_of strands.items) ≡ most_events) }
     {
         let ClockRecorder {
@@ -168,15 +168,15 @@ impl ClockRecorder {
         requires { All (λ pen. pen.clock ≡ self.clock) pens.items }
         // The history is the recording of these pens: every event that was recorded through any of them,
         // once, at the number that was returned for it, and nothing else.
-        ensures recording { IfOk result (λ history. IsRecordingOf (lists_of (pens_of pens.items)) history) }
+        ensures recording { IfOk result (λ history. IsRecordingOf (lists_of (pen_states pens.items)) history) }
         // The error is `PenMissing` exactly if fewer pens come than were started.
         ensures missing { IsPenMissing result ↔ (vec_len pens < self.pens) }
         // With `PenMissing` the recorder and the pens come back.
         ensures handed_back { IsPenMissing result → result ≡ Err (CloseFault.PenMissing self pens) }
         // The error is never `Mismatch`.
         ensures agreed { result ≢ Err CloseFault.Mismatch }
-        // If `Full` was returned for one of the pens, a history has 1,048,576 events.
-        ensures full { has_full (pens_of pens.items) ≡ true → IfOk result (λ history. length history ≡ most_events) }
+        // If `Full` was returned for one of the pens, a history that is returned has 1,048,576 events.
+        ensures full { has_full (pen_states pens.items) ≡ true → IfOk result (λ history. length history ≡ most_events) }
     {
         if pens.len() < self.pens {
             return Err(CloseFault::PenMissing(self, pens));

@@ -58,8 +58,8 @@ impl Copies {
         self.list.len()
     }
 
-    /// Returns whether the copy of this number is cut off, and whether it is in sync.
-    pub fn find(&self, copy: u32) -> Option<CopyFlags>
+    /// Returns whether the copy of this number is cut off, and whether it is in sync; `None` if there is none.
+    pub fn flags(&self, copy: u32) -> Option<CopyFlags>
         ensures { result ≡ option_map flags_of (slice_get self.now copy) }
     {
         let replica = find_replica(&self.list, copy)?;

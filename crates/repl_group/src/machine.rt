@@ -75,7 +75,7 @@ impl Machine {
     fn is_primary_cut(&self) -> bool
         ensures { result ≡ primary_cut self.now }
     {
-        match self.copies.find(self.primary) {
+        match self.copies.flags(self.primary) {
             Some(copy) => copy.is_cut,
             None => false,
         }
@@ -225,7 +225,7 @@ impl Machine {
         ensures err { OnErr result (self.new ≡ self.old) }
         ensures due { OnErr result ((n : GroupState) × ServesWrite self.old ticket request answers.Done n) }
     {
-        let Some(primary) = self.copies.find(self.primary) else {
+        let Some(primary) = self.copies.flags(self.primary) else {
             return Ok(Answer::NotNow);
         };
         if primary.is_cut {
@@ -270,7 +270,7 @@ impl Machine {
         let Some(request) = self.requests.get(ticket) else {
             return Ok(Answer::NotNow);
         };
-        let Some(target) = self.copies.find(copy) else {
+        let Some(target) = self.copies.flags(copy) else {
             return Ok(Answer::NotNow);
         };
         let Some((pair, _)) = request.stage.flight() else {
@@ -306,7 +306,7 @@ impl Machine {
     fn cut(&mut self, copy: u32) -> Answer
         ensures { Gives self.old (steps.Cut copy) result self.new }
     {
-        let Some(target) = self.copies.find(copy) else {
+        let Some(target) = self.copies.flags(copy) else {
             return Answer::NotNow;
         };
         if target.is_cut {
@@ -323,7 +323,7 @@ impl Machine {
         ensures err { OnErr result (self.new ≡ self.old) }
         ensures due { OnErr result (MayTake self.old (steps.Heal copy)) }
     {
-        let Some(_) = self.copies.find(copy) else {
+        let Some(_) = self.copies.flags(copy) else {
             return Ok(Answer::NotNow);
         };
         if self.is_left_alone(copy) {
@@ -338,7 +338,7 @@ impl Machine {
     fn drop_copy(&mut self, copy: u32) -> Answer
         ensures { Gives self.old (steps.Drop copy) result self.new }
     {
-        let Some(target) = self.copies.find(copy) else {
+        let Some(target) = self.copies.flags(copy) else {
             return Answer::NotNow;
         };
         if !self.may_drop(copy, target) {
@@ -355,7 +355,7 @@ impl Machine {
         ensures err { OnErr result (self.new ≡ self.old) }
         ensures due { OnErr result (MayTake self.old (steps.Promote copy)) }
     {
-        let Some(target) = self.copies.find(copy) else {
+        let Some(target) = self.copies.flags(copy) else {
             return Ok(Answer::NotNow);
         };
         if !self.may_lead(copy, target) {
@@ -413,7 +413,7 @@ impl Machine {
     pub fn in_sync(&self, copy: u32) -> bool
         ensures { result ≡ is_in_sync self.now copy }
     {
-        match self.copies.find(copy) {
+        match self.copies.flags(copy) {
             Some(copy) => copy.is_in_sync,
             None => false,
         }

@@ -1,6 +1,5 @@
 mod disturbed_group;
-mod faulty_groups;
 mod group;
 mod group_core;
+mod script;
 mod testing;
-mod texts;

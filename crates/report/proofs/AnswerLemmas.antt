@@ -1,9 +1,12 @@
 -- What the lines and texts that are written say of the inputs.
-use Rattle.std.proofs.Common.{ℕ, ◌≡◌, None, List, map, sym, subst, ◌∙◌, Option, Some, Ok, Err, inl, inr, codes, Vec, Global}
-use Rattle.std.specs.Prelude.{IfSome}
+use Rattle.std.proofs.Common.{ℕ, ◌≡◌, None, List, ap, map, sym, subst, ◌∙◌, Option, Some, Ok, Err, inl, inr, codes, Vec, Global}
+use Rattle.std.specs.Prelude.{IfOk, IfSome, Result}
+use Rattle.std.specs.declared.alloc.AllocError.{AllocError}
 use Rattle.doc_register.specs.declared.state.Conflicts.{Conflicts}
 use Rattle.events.specs.declared.event.Event.{Event}
 use Rattle.api_lines.specs.declared.text_fault.TextFault.{TextFault}
+use Rattle.events.specs.Events.{prefix}
+use Rattle.events.specs.Laws.{PrefixesStay}
 use Rattle.events.specs.Order.{IsLinearizable}
 use Rattle.history.specs.Reading.{history_text}
 use Rattle.history.specs.Text.{IsHistoryText}
@@ -17,7 +20,8 @@ use Rattle.evidence.specs.declared.refuted.Refuted.{Refuted as Evidence}
 use Rattle.evidence.specs.declared.refuted.Refuted.TheVariants as evidence
 use Rattle.evidence.specs.declared.ruling_out.RulingOut.{RulingOut}
 use Rattle.evidence.specs.declared.ruling_out.RulingOut.TheVariants.{On}
-use Rattle.compose.specs.Verdicts.{AreWitnesses, HasNoOrderFound}
+use Rattle.compose.specs.Certainties.{Says}
+use Rattle.compose.specs.Verdicts.{AreWitnesses, HasNoOrderFound, Unproven}
 use Rattle.compose.specs.VerifyFaults.{IsFirstVerifyFault}
 use Rattle.compose.specs.declared.verify_fault.VerifyFault.{VerifyFault}
 use Rattle.compose.specs.Offences.{IsOffence}
@@ -28,6 +32,8 @@ use Rattle.result_lines.specs.Lines.{broken_line, no_line, refused_file_line, re
 use Rattle.compose.specs.declared.finding.Finding.{Finding}
 use Rattle.compose.specs.declared.finding.Finding.TheVariants.{Explained, Unexplained}
 use Rattle.report.specs.Bulk.{AnswersBulk, IsBulkAnswer}
+use Rattle.report.specs.aids.Earlier.{IsEarlier}
+use Rattle.report.specs.declared.earlier.Earlier.{Earlier}
 use Rattle.report.specs.Findings.{HasItsEvidence, IsFindingOf, SaysFailing}
 use Rattle.report.specs.Verdict.{IsAnswer, IsRefutedBy, IsSomeHistory, IsUndecided, IsUnexplained, IsVerifyAnswer, IsWitnessAnswer, IsWitnessed}
 use Rattle.report.proofs.WitnessLimits.{within_limits}
@@ -126,3 +132,28 @@ pub found_holds : (ruling : RulingOut) (conflicts : Conflicts) (H : List Event) 
 found_holds ruling conflicts H status line (Explained proof) found = tt
 found_holds ruling conflicts H status line (Unexplained case failing) found =
     evidence_holds ruling case.conflicts case.events status line failing.offence failing.evidence found.2
+
+-- a history that has a prefix without an order has none
+pub prefix_refutes : (c d : Conflicts) (whole part : List Event) (n : ℕ) → PrefixesStay → c ≡ d → part ≡ prefix whole n
+    → ¬ IsLinearizable c part → ¬ IsLinearizable d whole
+prefix_refutes c d whole part n stay same is none order =
+    none (subst (IsLinearizable c) (sym is) (stay.linearizable c whole n (subst (λ x. IsLinearizable x whole) (sym same) order)))
+
+-- what is found of a prefix without an order is found of the whole
+found_earlier : (whole part : Unproven) (call n : ℕ) (found : Option Earlier) → PrefixesStay → part.events ≡ prefix whole.events n → part.conflicts ≡ whole.conflicts
+    → IfSome found (λ e. e.case ≡ part) → IfSome found (λ e. Says part.conflicts part.events e.failing.evidence call e.certainty)
+    → IfSome found (λ _. ¬ IsLinearizable part.conflicts part.events) → IfSome found (IsEarlier whole call)
+found_earlier whole part call n None stay is same case says none = tt
+found_earlier whole part call n (Some e) stay is same case says none = (
+  ap (λ (c : Unproven). c.conflicts) case ∙ same,
+  subst (λ (c : Unproven). Says c.conflicts c.events e.failing.evidence call e.certainty) (sym case) says,
+  prefix_refutes part.conflicts whole.conflicts whole.events part.events n stay same is none,
+)
+
+-- the same if memory may be refused
+pub earlier_found : (whole part : Unproven) (call n : ℕ) (found : Result (Option Earlier) AllocError) → PrefixesStay → part.events ≡ prefix whole.events n
+    → part.conflicts ≡ whole.conflicts → IfOk found (λ it. IfSome it (λ e. e.case ≡ part))
+    → IfOk found (λ it. IfSome it (λ e. Says part.conflicts part.events e.failing.evidence call e.certainty))
+    → IfOk found (λ it. IfSome it (λ _. ¬ IsLinearizable part.conflicts part.events)) → IfOk found (λ it. IfSome it (IsEarlier whole call))
+earlier_found whole part call n (Err e) stay is same case says none = tt
+earlier_found whole part call n (Ok found) stay is same case says none = found_earlier whole part call n found stay is same case says none

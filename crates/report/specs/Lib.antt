@@ -3,3 +3,5 @@ pub mod Verdict
 pub mod Workers
 pub mod Explained
 pub mod Findings
+pub mod Calls
+pub mod aids

@@ -1,10 +1,15 @@
--- Which documents a fault of a stream names.
-use Rattle.std.specs.Prelude.{◌<◌, ℕ, List, Option, IfSome, length}
+-- How many workers may search, and which documents a fault of a stream names.
+use Rattle.std.specs.Prelude.{◌<◌, ◌≤◌, ℕ, List, Option, IfSome, length}
 use Rattle.events.specs.declared.event.Event.{Event}
 use Rattle.events.specs.Events.{documents_of}
 use Rattle.history.specs.Text.{IsHistoryText}
 use Rattle.stream_io.specs.declared.stream_fault.StreamFault.{StreamFault}
 use Rattle.stream_io.specs.declared.stream_fault.StreamFault.TheVariants.{Read, Write, NoMemory, Worker, Recording, Setting}
+
+-- that many workers may search: 1 to 16
+-- Source: profile.
+abbrev pub AreWorkers : ℕ → Type 0
+AreWorkers count = (1 ≤ count) × (count ≤ 16)
 
 -- if the fault is Worker with a number, the history has a document of that number
 abbrev pub HasDocument : List Event → StreamFault → Type 0

@@ -1,4 +1,4 @@
-ghost use Rattle.std.specs.Prelude.{◌≡◌, ◌≢◌, ◌≤◌, None as Nothing, IfErr, IfOk, IfSome, ℕ, List, Err};
+ghost use Rattle.std.specs.Prelude.{◌≡◌, ◌≢◌, None as Nothing, IfErr, IfOk, IfSome, ℕ, List, Err};
 ghost use Rattle.doc_register.specs.declared.state.Conflicts.{Conflicts as Reading};
 ghost use Rattle.history.specs.Reading.{history_text};
 ghost use Rattle.history.specs.Text.{IsHistoryText};
@@ -6,12 +6,12 @@ ghost use Rattle.compose.specs.Checked.{IsVerdictOn};
 ghost use Rattle.evidence.specs.Evidence.{Holds, IsReported, IsWithoutRuledOut};
 ghost use Rattle.evidence.specs.declared.ruling_out.RulingOut.{RulingOut as Ruling};
 ghost use Rattle.result_lines.specs.Lines.{refused_line as reported_refused};
-ghost use Rattle.stream_io.specs.Faults.{IsCheckFault, IsReadingFault};
-ghost use Rattle.stream_io.specs.Taken.{TakesHistory};
+ghost use Rattle.stream_io.specs.Faults.{IsCheckFault};
 ghost use Rattle.report.specs.Findings.{IsFindingOf, SaysFailing};
-ghost use Rattle.report.specs.Verdict.{AnswersInput, IsAnswer, IsWitnessAnswer};
-ghost use Rattle.report.specs.Workers.{HasDocument, NamesOwnDocument};
+ghost use Rattle.report.specs.Verdict.{IsAnswer, IsWitnessAnswer};
+ghost use Rattle.report.specs.Workers.{AreWorkers, HasDocument};
 
+use crate::check_options::CheckOptions;
 use api_lines::TextFault;
 use check_pool::{NoGate, PoolFault};
 use compose::{
@@ -19,19 +19,18 @@ use compose::{
     check_alone, first_offence, refute, rule_out,
 };
 use doc_register::Conflicts;
-use events::{HashKeys, History};
+use events::History;
 use evidence::laws::evidence_refutes;
 use result_lines::{no_line, refused_line, refuted_line, yes_line};
 use std::alloc::Global;
-use std::io::Read;
 use std::sync::Wait;
 use std::thread::Threads;
-use stream_io::{Answer, Status, StreamFault, read_history};
+use stream_io::{Answer, Status, StreamFault};
 use version_pair::NoMemory;
 
-// Returns evidence that no order explains the case's history, if some is found. Documents that are ruled out
-// are searched for last, and only if that is asked for.
-fn evidence_against(
+/// Returns evidence that no order explains the case's history, if some is found. Documents that are ruled out
+/// are searched for last, and only if that is asked for.
+pub fn evidence_against(
     alloc: Global,
     case: &Case,
     ruling_out: RulingOut,
@@ -96,22 +95,25 @@ pub fn refusal(alloc: Global, fault: TextFault) -> Result<Answer, NoMemory>
     Ok(Answer::of(Status::Refused, line))
 }
 
-// Returns the verdict on a history by that many workers. One worker is the caller's thread.
+// Returns the verdict on a history, with these options.
 fn verdict_by<R: Threads + Wait + Sync>(
     rt: &R,
     alloc: Global,
     history: History,
-    workers: usize,
-    conflicts: Conflicts,
+    options: CheckOptions,
 ) -> Result<Verdict, StreamFault>
-    requires some { 1 ≤ workers }
-    requires few { workers ≤ 16 }
-    ensures verdict { IfOk result (IsVerdictOn conflicts history) }
+    requires workers { AreWorkers options.workers }
+    ensures verdict { IfOk result (IsVerdictOn options.conflicts history) }
     ensures reported { IfErr result IsCheckFault }
     ensures unread { IfErr result (λ fault. fault ≢ StreamFault.Read) }
-    ensures alone { workers ≡ 1 → IfErr result (λ fault. fault ≡ StreamFault.NoMemory) }
+    ensures alone { options.workers ≡ 1 → IfErr result (λ fault. fault ≡ StreamFault.NoMemory) }
     ensures named { IfErr result (HasDocument history) }
 {
+    let CheckOptions {
+        workers,
+        conflicts,
+        ..
+    } = options;
     if workers == 1 {
         return match check_alone(alloc, history, conflicts) {
             Ok(verdict) => Ok(verdict),
@@ -139,66 +141,34 @@ pub fn history_answer<R: Threads + Wait + Sync>(
     rt: &R,
     alloc: Global,
     history: History,
-    workers: usize,
-    conflicts: Conflicts,
-    ruling_out: RulingOut,
+    options: CheckOptions,
 ) -> Result<(Answer, Finding), StreamFault>
-    // `some`, `few`: There are 1 to 16 workers.
-    requires some { 1 ≤ workers }
-    requires few { workers ≤ 16 }
+    // There are 1 to 16 workers.
+    requires workers { AreWorkers options.workers }
     // The answer is one to each text of the history, as `check_stream` promises it.
     ensures answer { IfOk result (λ made. (input : List ℕ) → IsHistoryText input history
-        → IsAnswer ruling_out conflicts input made.0.status made.0.text.items) }
+        → IsAnswer options.ruling_out options.conflicts input made.0.status made.0.text.items) }
     // What was found is of this history and this reading of conflicts, and is what the line says: `Explained`
     // with `yes`, or the evidence and the offence of the line, the evidence being one that holds and may be
     // reported.
-    ensures found { IfOk result (λ made. IsFindingOf ruling_out conflicts history made.0.status made.0.text.items
+    ensures found { IfOk result (λ made. IsFindingOf options.ruling_out options.conflicts history made.0.status made.0.text.items
         made.1) }
     // `reported`, `unread`: the only errors are `NoMemory` and `Worker`: nothing is read.
     ensures reported { IfErr result IsCheckFault }
     ensures unread { IfErr result (λ fault. fault ≢ StreamFault.Read) }
     // With one worker, the caller's thread, the only error is `NoMemory`.
-    ensures alone { workers ≡ 1 → IfErr result (λ fault. fault ≡ StreamFault.NoMemory) }
+    ensures alone { options.workers ≡ 1 → IfErr result (λ fault. fault ≡ StreamFault.NoMemory) }
     // A document that a `Worker` names is one of the history's.
     ensures named { IfErr result (HasDocument history) }
 {
-    match verdict_by(rt, alloc, history, workers, conflicts)? {
+    match verdict_by(rt, alloc, history, options)? {
         Verdict::Yes(proof) => {
             let line = yes_line(alloc, Counts::of(&proof))?;
             Ok((Answer::of(Status::Yes, line), Finding::Explained(proof)))
         }
         Verdict::No(case) => {
-            let (answer, failing) = case_answer(alloc, &case, ruling_out)?;
+            let (answer, failing) = case_answer(alloc, &case, options.ruling_out)?;
             Ok((answer, Finding::Unexplained(case, failing)))
         }
-    }
-}
-
-/// Returns the answer to the text of a reader: whether an order explains its history. That many workers
-/// search for one.
-pub fn check_answer<T: Threads + Wait + Sync, R: Read>(
-    rt: &T,
-    alloc: Global,
-    keys: HashKeys,
-    reader: &mut R,
-    workers: usize,
-    conflicts: Conflicts,
-    ruling_out: RulingOut,
-) -> Result<Answer, StreamFault>
-    requires some { 1 ≤ workers }
-    requires few { workers ≤ 16 }
-    ensures answer { IfOk result (λ answer. AnswersInput ruling_out conflicts (R.remaining reader.old) answer.status
-        answer.text.items) }
-    ensures reported { IfErr result IsCheckFault }
-    ensures alone { workers ≡ 1 → IfErr result IsReadingFault }
-    ensures named { IfErr result (NamesOwnDocument (R.remaining reader.old)) }
-    ensures taken { TakesHistory (R.remaining reader.old) (R.remaining reader.new) }
-{
-    match read_history(alloc, keys, reader)? {
-        Ok(history) => {
-            let (answer, _) = history_answer(rt, alloc, history, workers, conflicts, ruling_out)?;
-            Ok(answer)
-        }
-        Err(fault) => Ok(refusal(alloc, fault)?),
     }
 }

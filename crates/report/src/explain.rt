@@ -1,63 +1,116 @@
 //! Explanations: what an answer means, for people.
 
-ghost use Rattle.std.specs.Prelude.{◌≡◌, ◌≢◌, ◌≤◌, ◌++◌, ℕ, List, IfErr, IfOk, IfSome};
+ghost use Rattle.std.specs.Prelude.{◌≡◌, ◌≢◌, ◌++◌, ℕ, List, IfErr, IfOk, IfSome};
 ghost use Rattle.evidence.specs.Evidence.{Holds};
 ghost use Rattle.events.specs.Order.{IsLinearizable};
 ghost use Rattle.compose.specs.Certainties.{Says};
+ghost use Rattle.history.specs.Text.{IsHistoryText};
 ghost use Rattle.page.specs.Pages.{IsPage};
 ghost use Rattle.stream_io.specs.Faults.{IsCheckFault, IsReadingFault};
 ghost use Rattle.stream_io.specs.Taken.{TakesHistory};
+ghost use Rattle.report.specs.aids.Earlier.{IsEarlier};
 ghost use Rattle.report.specs.Explained.{ExplainsInput};
 ghost use Rattle.report.specs.Findings.{HasItsEvidence};
-ghost use Rattle.report.specs.Verdict.{AnswersInput};
-ghost use Rattle.report.specs.Workers.{NamesOwnDocument};
+ghost use Rattle.report.specs.Verdict.{AnswersInput, IsAnswer};
+ghost use Rattle.report.specs.Workers.{AreWorkers, HasDocument, NamesOwnDocument};
 
 use crate::check_answer::{history_answer, refusal};
-use crate::document_search::DocumentSearch;
+use crate::check_options::CheckOptions;
+use crate::earlier::{Earlier, earlier_reasons};
 use crate::numbered_input::read_numbered;
-use compose::{Case, Certainty, Counts, Failing, Finding, RulingOut, certainty_of};
-use doc_register::Conflicts;
-use events::HashKeys;
+use crate::searches::Searches;
+use compose::{Case, Certainty, Counts, Failing, Finding, Offence, RulingOut, certainty_of};
+use events::{HashKeys, History};
 use std::alloc::Global;
 use std::io::Read;
 use std::sync::Wait;
 use std::thread::Threads;
 use story::{
-    EventLines, Explained, Story, Unexplained, explained_story, failing_story, page_of, plain_text,
-    refused_story,
+    About, EventLines, Explained, Story, Unexplained, View, cites_later, explained_story,
+    failing_story, page_of, plain_text, refused_story,
 };
 use stream_io::{Answer, StreamFault};
 use version_pair::NoMemory;
 
-// Returns what an explanation says of a history for which no order was found.
+// Returns what an explanation says of a history for which no order was found: of the earlier reasons, if there are some,
+// and else of the whole history.
 fn unexplained_of<'h>(
-    alloc: Global,
     case: &'h Case,
     failing: &Failing,
-) -> Result<Unexplained<'h>, NoMemory>
-    requires { IfSome failing.now.evidence (Holds case.now.conflicts case.now.events) }
-    ensures history { IfOk result (λ unexplained. unexplained.history.now ≡ case.now.events) }
-    ensures evidence { IfOk result (λ unexplained. unexplained.evidence ≡ failing.now.evidence) }
+    certainty: Certainty,
+    earlier: &'h Option<Earlier>,
+) -> Unexplained<'h>
+    requires says { Says case.now.conflicts case.now.events failing.now.evidence
+        failing.now.offence.call certainty }
+    requires proved { certainty ≢ Certainty.Undecided → ¬ IsLinearizable case.now.conflicts case.now.events }
+    requires earlier { IfSome earlier.now (IsEarlier case.now failing.now.offence.call) }
+    ensures whole { result.whole.now ≡ case.now.events }
     // It says that there is no order only if there is none.
-    ensures proved { IfOk result (λ unexplained. unexplained.certainty ≢ Certainty.Undecided
-        → ¬ IsLinearizable case.now.conflicts case.now.events) }
-    ensures says { IfOk result (λ unexplained. Says case.now.conflicts case.now.events failing.now.evidence
-        failing.now.offence.call unexplained.certainty) }
+    ensures proved { result.certainty ≢ Certainty.Undecided
+        → ¬ IsLinearizable case.now.conflicts case.now.events }
+    ensures says { Says result.conflicts result.history.now result.evidence failing.now.offence.call
+        result.certainty }
 {
-    let certainty = certainty_of(alloc, case, failing)?;
-    Ok(Unexplained {
+    let Offence {
+        event,
+        call,
+        before_shown,
+    } = failing.offence;
+    let whole = Unexplained {
         history: case.history(),
+        whole: case.history(),
         conflicts: case.conflicts(),
         evidence: failing.evidence,
+        reported: None,
         certainty,
-        event: failing.offence.event,
-        call: failing.offence.call,
-        before_shown: failing.offence.before_shown,
-    })
+        event,
+        call,
+        before_shown,
+    };
+    match earlier {
+        Some(earlier) => Unexplained {
+            history: earlier.case.history(),
+            evidence: earlier.failing.evidence,
+            reported: if earlier.failing.evidence == failing.evidence {
+                None
+            } else {
+                failing.evidence
+            },
+            certainty: earlier.certainty,
+            ..whole
+        },
+        None => whole,
+    }
+}
+
+// Returns the explanation of a history for which no order was found.
+fn story_of_case(
+    alloc: Global,
+    case: &Case,
+    failing: &Failing,
+    lines: &EventLines,
+    view: Option<&View<'_>>,
+    ruling_out: RulingOut,
+) -> Result<Story, NoMemory>
+    requires { IfSome failing.now.evidence (Holds case.now.conflicts case.now.events) }
+{
+    let certainty = certainty_of(alloc, case, failing)?;
+    let mut earlier = None;
+    if cites_later(alloc, &unexplained_of(case, failing, certainty, &earlier))? {
+        earlier = earlier_reasons(alloc, case, failing, certainty)?;
+    }
+    let unexplained = unexplained_of(case, failing, certainty, &earlier);
+    failing_story(alloc, &unexplained, lines, &Searches { ruling_out }, view)
 }
 
 // Returns the explanation of a history.
-fn story_of(alloc: Global, finding: &Finding, lines: &EventLines) -> Result<Story, NoMemory>
+fn story_of(
+    alloc: Global,
+    finding: &Finding,
+    lines: &EventLines,
+    view: Option<&View<'_>>,
+    ruling_out: RulingOut,
+) -> Result<Story, NoMemory>
     requires { HasItsEvidence finding.now }
 {
     match finding {
@@ -69,13 +122,33 @@ fn story_of(alloc: Global, finding: &Finding, lines: &EventLines) -> Result<Stor
                 left_out: counts.left_out,
                 witnesses: proof.witnesses(),
             };
-            explained_story(alloc, &explained, lines)
+            explained_story(alloc, &explained, lines, view)
         }
         Finding::Unexplained(case, failing) => {
-            let unexplained = unexplained_of(alloc, case, failing)?;
-            failing_story(alloc, &unexplained, lines, &DocumentSearch)
+            story_of_case(alloc, case, failing, lines, view, ruling_out)
         }
     }
+}
+
+// Returns the answer to a text that was read as this history, and its explanation.
+fn explained_history<T: Threads + Wait + Sync>(
+    rt: &T,
+    alloc: Global,
+    history: History,
+    lines: &EventLines,
+    options: CheckOptions,
+    view: Option<&View<'_>>,
+) -> Result<(Answer, Story), StreamFault>
+    requires workers { AreWorkers options.workers }
+    ensures answer { IfOk result (λ made. (input : List ℕ) → IsHistoryText input history
+        → IsAnswer options.ruling_out options.conflicts input made.0.status made.0.text.items) }
+    ensures reported { IfErr result IsCheckFault }
+    ensures alone { options.workers ≡ 1 → IfErr result (λ fault. fault ≡ StreamFault.NoMemory) }
+    ensures named { IfErr result (HasDocument history) }
+{
+    let (answer, finding) = history_answer(rt, alloc, history, options)?;
+    let story = story_of(alloc, &finding, lines, view, options.ruling_out)?;
+    Ok((answer, story))
 }
 
 // Returns the line of a check of the text of a reader, and its explanation.
@@ -84,27 +157,19 @@ fn explain<T: Threads + Wait + Sync, R: Read>(
     alloc: Global,
     keys: HashKeys,
     reader: &mut R,
-    workers: usize,
-    conflicts: Conflicts,
-    ruling_out: RulingOut,
+    options: CheckOptions,
+    view: Option<&View<'_>>,
 ) -> Result<(Answer, Story), StreamFault>
-    requires some { 1 ≤ workers }
-    requires few { workers ≤ 16 }
-    ensures answer { IfOk result (λ found. AnswersInput ruling_out conflicts (R.remaining reader.old) found.0.status
+    requires workers { AreWorkers options.workers }
+    ensures answer { IfOk result (λ found. AnswersInput options.ruling_out options.conflicts (R.remaining reader.old) found.0.status
         found.0.text.items) }
     ensures reported { IfErr result IsCheckFault }
-    ensures alone { workers ≡ 1 → IfErr result IsReadingFault }
+    ensures alone { options.workers ≡ 1 → IfErr result IsReadingFault }
     ensures named { IfErr result (NamesOwnDocument (R.remaining reader.old)) }
     ensures taken { TakesHistory (R.remaining reader.old) (R.remaining reader.new) }
 {
     match read_numbered(alloc, keys, reader) {
-        Ok(Ok((history, lines))) => {
-            let (answer, finding) = history_answer(
-                rt, alloc, history, workers, conflicts, ruling_out,
-            )?;
-            let story = story_of(alloc, &finding, &lines)?;
-            Ok((answer, story))
-        }
+        Ok(Ok((history, lines))) => { explained_history(rt, alloc, history, &lines, options, view) }
         Ok(Err(refused)) => {
             let answer = refusal(alloc, refused.fault)?;
             let story = refused_story(alloc, &refused)?;
@@ -137,21 +202,27 @@ pub fn explained_text<T: Threads + Wait + Sync, R: Read>(
     alloc: Global,
     keys: HashKeys,
     reader: &mut R,
-    workers: usize,
-    conflicts: Conflicts,
-    ruling_out: RulingOut,
+    options: CheckOptions,
 ) -> Result<Answer, StreamFault>
-    requires some { 1 ≤ workers }
-    requires few { workers ≤ 16 }
-    ensures answer { IfOk result (λ made. ExplainsInput ruling_out conflicts (R.remaining reader.old) made.status
+    requires workers { AreWorkers options.workers }
+    ensures answer { IfOk result (λ made. ExplainsInput options.ruling_out options.conflicts (R.remaining reader.old) made.status
         made.text.items) }
     ensures reported { IfErr result IsCheckFault }
-    ensures alone { workers ≡ 1 → IfErr result IsReadingFault }
+    ensures alone { options.workers ≡ 1 → IfErr result IsReadingFault }
     ensures named { IfErr result (NamesOwnDocument (R.remaining reader.old)) }
     ensures taken { TakesHistory (R.remaining reader.old) (R.remaining reader.new) }
 {
-    let (answer, story) = explain(rt, alloc, keys, reader, workers, conflicts, ruling_out)?;
+    let (answer, story) = explain(rt, alloc, keys, reader, options, None)?;
     Ok(with_story(alloc, answer, &story)?)
+}
+
+/// What a page shows beside the explanation. Nothing is promised of it.
+#[derive(Clone, Copy)]
+pub struct PageOptions<'a> {
+    /// The name of the history's file; `None` if it is standard input.
+    pub file: Option<&'a str>,
+    /// The document that is drawn as a timeline, if one is asked for.
+    pub view: Option<View<'a>>,
 }
 
 /// Reads a history text to its end. Returns the answer that `explain_stream` writes for it, and the
@@ -163,31 +234,34 @@ pub fn explained_page<T: Threads + Wait + Sync, R: Read>(
     alloc: Global,
     keys: HashKeys,
     reader: &mut R,
-    workers: usize,
-    conflicts: Conflicts,
-    ruling_out: RulingOut,
+    options: CheckOptions,
+    shown: PageOptions<'_>,
 ) -> Result<(Answer, Vec<u8>), StreamFault>
-    // `some`, `few`: There are 1 to 16 workers.
-    requires some { 1 ≤ workers }
-    requires few { workers ≤ 16 }
+    // There are 1 to 16 workers.
+    requires workers { AreWorkers options.workers }
     // The text of the answer begins with a line that answers the bytes of the reader as the line of
     // `check_stream` does.
-    ensures text { IfOk result (λ made. ExplainsInput ruling_out conflicts (R.remaining reader.old) made.0.status
+    ensures text { IfOk result (λ made. ExplainsInput options.ruling_out options.conflicts (R.remaining reader.old) made.0.status
         made.0.text.items) }
     // The page is made of markup of the crate `page`, numbers, and escaped texts.
     ensures page { IfOk result (λ made. IsPage made.1.items) }
     // The only errors are `Read`, `NoMemory` and `Worker`.
     ensures reported { IfErr result IsCheckFault }
     // With one worker, the caller's thread, the error is never `Worker`.
-    ensures alone { workers ≡ 1 → IfErr result IsReadingFault }
+    ensures alone { options.workers ≡ 1 → IfErr result IsReadingFault }
     // A document that a `Worker` names is one of the history whose text the reader had.
     ensures named { IfErr result (NamesOwnDocument (R.remaining reader.old)) }
     // No bytes after the first refused line are taken but those that the last read returned, as by
     // `check_stream`.
     ensures taken { TakesHistory (R.remaining reader.old) (R.remaining reader.new) }
 {
-    let (answer, story) = explain(rt, alloc, keys, reader, workers, conflicts, ruling_out)?;
-    let page = page_of(alloc, line_of(&answer), &story)?;
+    let (answer, story) = explain(rt, alloc, keys, reader, options, shown.view.as_ref())?;
+    let about = About {
+        file: shown.file,
+        ruling_out: options.ruling_out,
+        workers: options.workers,
+    };
+    let page = page_of(alloc, line_of(&answer), &story, &about)?;
     let made = with_story(alloc, answer, &story)?;
     Ok((made, page))
 }

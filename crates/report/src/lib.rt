@@ -11,18 +11,24 @@
 
 mod bulk_answer;
 mod check_answer;
-mod document_search;
+mod check_options;
+mod checked;
+mod earlier;
 mod explain;
 mod numbered_input;
+mod searches;
 mod streams;
 mod verify_answer;
 mod verify_input;
 mod witness_answer;
 
 pub use check_answer::history_answer;
+pub use check_options::CheckOptions;
+pub use checked::{Checked, check_text};
 pub use compose::{Finding, Offence, RulingOut, first_offence};
-pub use explain::explained_page;
+pub use explain::{PageOptions, explained_page};
 pub use page::laws;
 pub use recorded_runs::{RUN_POLLS, RunSetting, run_stream};
+pub use story::View;
 pub use stream_io::{Answer, Status, StreamFault, write_answer};
 pub use streams::{bulk_stream, check_stream, explain_stream, verify_stream, witness_stream};

@@ -9,7 +9,8 @@ ghost use Rattle.stream_io.specs.Taken.{TakesHistory, TakesWitness};
 ghost use Rattle.stream_io.specs.Written.{HasAnswer, HasPrefix};
 
 use crate::bulk_answer::bulk_answer;
-use crate::check_answer::check_answer;
+use crate::check_options::CheckOptions;
+use crate::checked::check_text;
 use crate::explain::explained_text;
 use crate::verify_input::verify_input;
 use crate::witness_answer::witness_answer;
@@ -86,8 +87,13 @@ pub fn check_stream<T: Threads + Wait + Sync, R: Read, W: Write>(
     // what the last read returned, 32,768 bytes at most.
     ensures taken { TakesHistory (R.remaining reader.old) (R.remaining reader.new) }
 {
-    let answer = check_answer(rt, alloc, keys, reader, workers, conflicts, ruling_out)?;
-    write_answer(writer, &answer)
+    let options = CheckOptions {
+        workers,
+        conflicts,
+        ruling_out,
+    };
+    let found = check_text(rt, alloc, keys, reader, options)?;
+    write_answer(writer, &found.answer)
 }
 
 /// Reads a history text to its end and writes the line that `check_stream` writes for it, followed by an
@@ -132,7 +138,12 @@ pub fn explain_stream<T: Threads + Wait + Sync, R: Read, W: Write>(
     // `check_stream`.
     ensures taken { TakesHistory (R.remaining reader.old) (R.remaining reader.new) }
 {
-    let answer = explained_text(rt, alloc, keys, reader, workers, conflicts, ruling_out)?;
+    let options = CheckOptions {
+        workers,
+        conflicts,
+        ruling_out,
+    };
+    let answer = explained_text(rt, alloc, keys, reader, options)?;
     write_answer(writer, &answer)
 }
 
@@ -190,10 +201,10 @@ pub fn verify_stream<R: Read, Q: Read, W: Write>(
     writer: &mut W,
     conflicts: Conflicts,
 ) -> Result<Status, StreamFault>
-    // If it answers yes, the one's bytes are a text of a history, and the other's read as entries that cover
-    // it, so that an order explains it, with the counts of the line. If it answers no, they read as entries
-    // of which the line reports the first fault, so that they do not cover it. A refusal reports the first
-    // refused line of the first text that is refused.
+    // If it answers yes, the history's bytes are a text of a history, and the witness's read as entries that
+    // cover it, so that an order explains it, with the counts of the line. If it answers no, they read as
+    // entries of which the line reports the first fault, so that they do not cover it. A refusal reports the
+    // first refused line of the first text that is refused.
     ensures answered { IfOk result (λ status. HasAnswer (VerifiesInputs conflicts
         (R.remaining history.old) (Q.remaining witness.old) status)
         (W.contents writer.old) (W.contents writer.new)) }

@@ -65,19 +65,19 @@ both_numbers a b = decimal a ++ (codes "," ++ decimal b)
 
 -- the numbers of the calls that evidence names, in its order
 -- Source: profile.
-abbrev pub named_calls : Refuted → List ℕ
-named_calls (evidence.PairTwice a b) = both_numbers a b
-named_calls (evidence.NoWriter g) = decimal g
-named_calls (evidence.StaleGet g w) = both_numbers g w
-named_calls (evidence.StaleSwap a b) = both_numbers a b
-named_calls (evidence.RuledOut n) = decimal n
+abbrev pub call_numbers : Refuted → List ℕ
+call_numbers (evidence.PairTwice a b) = both_numbers a b
+call_numbers (evidence.NoWriter g) = decimal g
+call_numbers (evidence.StaleGet g w) = both_numbers g w
+call_numbers (evidence.StaleSwap a b) = both_numbers a b
+call_numbers (evidence.RuledOut n) = decimal n
 
 -- the line `refuted kind=K calls=A,B event=E call=N before=B` of evidence and an offence; calls has one
 -- number if the evidence is one call
 -- Source: profile.
 abbrev pub refuted_line : Refuted → Offence → List ℕ
 refuted_line e o =
-    codes "refuted kind=" ++ (kind_name e ++ (codes " calls=" ++ (named_calls e ++ (codes " event=" ++ (decimal o.event ++ (codes " call=" ++ (decimal o.call ++ (codes " before=" ++ (before_name o.before_shown ++ codes "\n")))))))))
+    codes "refuted kind=" ++ (kind_name e ++ (codes " calls=" ++ (call_numbers e ++ (codes " event=" ++ (decimal o.event ++ (codes " call=" ++ (decimal o.call ++ (codes " before=" ++ (before_name o.before_shown ++ codes "\n")))))))))
 
 -- the line `refused line=L cause=C` of the number of a line and the name of its cause
 -- Source: profile.

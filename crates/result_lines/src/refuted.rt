@@ -1,5 +1,5 @@
 ghost use Rattle.std.specs.Prelude.{◌≡◌, IfOk, string_bytes};
-ghost use Rattle.result_lines.specs.Lines.{both_numbers, kind_name as reported_kind, named_calls as reported_calls, refuted_line as reported_line};
+ghost use Rattle.result_lines.specs.Lines.{both_numbers, kind_name as reported_kind, call_numbers as reported_calls, refuted_line as reported_line};
 
 use crate::checked::before_name;
 use compose::{Offence, Refuted};
@@ -27,7 +27,7 @@ fn numbers(alloc: Global, one: u64, two: u64) -> Result<String, NoMemory>
 }
 
 // Returns the numbers of the calls that evidence names.
-fn named_calls(alloc: Global, evidence: Refuted) -> Result<String, NoMemory>
+fn call_numbers(alloc: Global, evidence: Refuted) -> Result<String, NoMemory>
     ensures { IfOk result (λ text. string_bytes text ≡ reported_calls evidence) }
 {
     match evidence {
@@ -49,7 +49,7 @@ pub fn refuted_line(alloc: Global, evidence: Refuted, offence: Offence) -> Resul
         before_shown,
     } = offence;
     let kind = kind_name(evidence);
-    let calls = named_calls(alloc, evidence)?;
+    let calls = call_numbers(alloc, evidence)?;
     let calls = calls.as_str();
     let before = before_name(before_shown);
     format!(in alloc;

@@ -8,8 +8,8 @@ use Rattle.doc_register.specs.declared.reply.Reply.{Reply}
 use Rattle.doc_register.specs.Register.{value_of}
 use Rattle.events.specs.declared.record.Rec.{Rec}
 use Rattle.events.specs.Heard.{pair_of}
-use Rattle.ruled_out.specs.declared.walk.Walk.{Walk}
-use Rattle.ruled_out.specs.Positions.{gap_of, position_after, version_of}
+use Rattle.ruled_out.specs.declared.walk.EventWalk.{EventWalk}
+use Rattle.ruled_out.specs.Positions.{taking_position, position_after, version_of}
 use Rattle.ruled_out.specs.Placings.{AreInOrder, HasWriter, IsReached, MayAnswer, MayBeAbsent, MayBePresent, MayChange, MayStand, MayTake}
 use Rattle.ruled_out.specs.aids.Sets.{IsLeastFrom}
 use Rattle.ruled_out.specs.aids.Standing.{IsRaised, IsReachedBy, KnowsBefore}
@@ -29,7 +29,7 @@ may_take records floors reached event w p passed t = record {
   at = t.at;
   unanswered = t.unanswered;
   called = (passed t.number w t.at).1 (slice_get_within floors t.number t.floor t.made);
-  above = subst (λ n. n ≤ gap_of records p) (sym (get_or_from_slice_get floors t.number t.floor reached t.made)) t.above;
+  above = subst (λ n. n ≤ taking_position records p) (sym (get_or_from_slice_get floors t.number t.floor reached t.made)) t.above;
   condition = t.meets;
 }
 
@@ -89,7 +89,7 @@ join : {P Q R : Type 0} → P ↔ Q → Q ↔ R → P ↔ R
 join a b = (λ p. b.0 (a.0 p), λ r. a.1 (b.1 r))
 
 -- what the walk knows is what may be before the event
-pub knows_before : (records : List Rec) (walk : Walk) (event : ℕ) → IsAt records walk → HasPassed records walk.floors.items event → KnowsBefore records (floor_in walk) event walk
+pub knows_before : (records : List Rec) (walk : EventWalk) (event : ℕ) → IsAt records walk → HasPassed records walk.floors.items event → KnowsBefore records (floor_in walk) event walk
 knows_before records walk event knows passed = record {
   versions = knows.versions;
   absent = λ n. join (knows.absent n) (absent_is records walk.floors.items walk.reached event n passed);
@@ -166,7 +166,7 @@ walked_same records event f g same w = record {
 }
 
 -- an answered call stands at its earliest position, and what is reached is raised
-pub walked_more : (records : List Rec) (walk new : Walk) (i y n : ℕ) (c : Rec) (reply : Reply) → AreInOrder records → HasPassed records walk.floors.items y → IsAnswerAt records i c y reply → IsWalked records y (floor_in walk)
+pub walked_more : (records : List Rec) (walk new : EventWalk) (i y n : ℕ) (c : Rec) (reply : Reply) → AreInOrder records → HasPassed records walk.floors.items y → IsAnswerAt records i c y reply → IsWalked records y (floor_in walk)
     → IsEarliest records (floor_in walk) i c y reply n → new.floors.items ≡ walk.floors.items → IsRaised walk.reached (position_after records (pair_of c.heard) n) new.reached → IsWalked records (suc y) (floor_in new)
 walked_more records walk new i y n c reply order passed answer walked earliest same raised =
     subst (λ (xs : List ℕ). IsWalked records (suc y) (At xs new.reached)) (sym same)

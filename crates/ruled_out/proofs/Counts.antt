@@ -9,7 +9,7 @@ use Rattle.doc_register.proofs.RunLemmas.{below_trans, not_below_itself}
 use Rattle.events.specs.declared.record.Rec.{Rec}
 use Rattle.version_pair.proofs.ListLemmas.{get_front, none_is_not_some, same_some}
 use Rattle.ruled_out.specs.Reported.{IsKnown, IsListed, condition_met, known_pairs, pair_shown}
-use Rattle.ruled_out.specs.Positions.{count_below, gap_of, is_below, version_of}
+use Rattle.ruled_out.specs.Positions.{count_below, taking_position, is_below, version_of}
 
 -- ---- the test
 
@@ -95,14 +95,14 @@ count_same vs q p below within =
 
 -- ---- positions
 
-pub gap_grows : (records : List Rec) (p q : Pair) → IsBelow p q → gap_of records p ≤ gap_of records q
+pub gap_grows : (records : List Rec) (p q : Pair) → IsBelow p q → taking_position records p ≤ taking_position records q
 gap_grows records p q below = let within : count_below (known_pairs records) p ≤ count_below (known_pairs records) q = count_grows (known_pairs records) p q below in omega arith
 
-pub version_before_gap : (records : List Rec) (p q : Pair) → IsKnown records p → IsBelow p q → version_of records p < gap_of records q
+pub version_before_gap : (records : List Rec) (p q : Pair) → IsKnown records p → IsBelow p q → version_of records p < taking_position records q
 version_before_gap records p q known below =
     let less : count_below (known_pairs records) p < count_below (known_pairs records) q = count_passes (known_pairs records) known.0 p q known.1 below in omega arith
 
-pub no_gap_is_version : (records : List Rec) (p q : Pair) → gap_of records p ≡ version_of records q → ⊥
+pub no_gap_is_version : (records : List Rec) (p q : Pair) → taking_position records p ≡ version_of records q → ⊥
 no_gap_is_version records p q same = odd (count_below (known_pairs records) p) (count_below (known_pairs records) q) same where
   odd : (m n : ℕ) → suc (2 * m) ≡ suc (suc (2 * n)) → ⊥
   odd m n same = omega arith
@@ -111,9 +111,9 @@ no_gap_is_version records p q same = odd (count_below (known_pairs records) p) (
 pub same_version : (records : List Rec) (p q : Pair) → IsKnown records p → IsKnown records q → version_of records p ≡ version_of records q → p ≡ q
 same_version records p q known too same = by_order (pair_order p q) where
   by_order : IsBelow p q ⊎ ((p ≡ q) ⊎ IsBelow q p) → p ≡ q
-  by_order (inl below) = let less : version_of records p < gap_of records q = version_before_gap records p q known below in absurd (omega arith)
+  by_order (inl below) = let less : version_of records p < taking_position records q = version_before_gap records p q known below in absurd (omega arith)
   by_order (inr (inl is)) = is
-  by_order (inr (inr below)) = let less : version_of records q < gap_of records p = version_before_gap records q p too below in absurd (omega arith)
+  by_order (inr (inr below)) = let less : version_of records q < taking_position records p = version_before_gap records q p too below in absurd (omega arith)
 
 -- ---- known pairs
 

@@ -17,7 +17,7 @@ use Rattle.events.specs.Heard.{pair_of}
 use Rattle.events.specs.Order.{Placed}
 use Rattle.version_pair.proofs.ListLemmas.{none_is_not_some, same_some}
 use Rattle.ruled_out.specs.Reported.{IsKnown}
-use Rattle.ruled_out.specs.Positions.{IsNext, gap_of, version_of}
+use Rattle.ruled_out.specs.Positions.{IsNext, taking_position, version_of}
 use Rattle.ruled_out.specs.Placings.{MayTake}
 use Rattle.ruled_out.proofs.Counts.{gap_grows, known_or_not, version_before_gap}
 use Rattle.ruled_out.proofs.DocumentSteps.{exceeds_above, meets, met_pair, pair_reached, reached_pair}
@@ -29,7 +29,7 @@ use Rattle.ruled_out.proofs.ReportedStates.{known_taken}
 -- the position of a document that has the pair
 abbrev position_with : (records : List Rec) (p : Pair) → IsKnown records p ⊎ (¬ IsKnown records p) → ℕ
 position_with records p (inl known) = version_of records p
-position_with records p (inr unknown) = gap_of records p
+position_with records p (inr unknown) = taking_position records p
 
 -- the position of a document
 abbrev pub position : List Rec → Option Pair → ℕ
@@ -46,24 +46,24 @@ position_known records p known = by_case (known_or_not records p) where
   by_case (inl is) = refl
   by_case (inr unknown) = absurd (unknown known)
 
-pub position_unknown : (records : List Rec) (p : Pair) → (¬ IsKnown records p) → position records (Some p) ≡ gap_of records p
+pub position_unknown : (records : List Rec) (p : Pair) → (¬ IsKnown records p) → position records (Some p) ≡ taking_position records p
 position_unknown records p unknown = by_case (known_or_not records p) where
-  by_case : (c : IsKnown records p ⊎ (¬ IsKnown records p)) → position_with records p c ≡ gap_of records p
+  by_case : (c : IsKnown records p ⊎ (¬ IsKnown records p)) → position_with records p c ≡ taking_position records p
   by_case (inl known) = absurd (unknown known)
   by_case (inr is) = refl
 
 -- what is below a pair lies before the gap of the pair
-pub position_before : (records : List Rec) (p q : Pair) → IsBelow p q → position records (Some p) ≤ gap_of records q
+pub position_before : (records : List Rec) (p q : Pair) → IsBelow p q → position records (Some p) ≤ taking_position records q
 position_before records p q below = by_case (known_or_not records p) where
-  by_case : IsKnown records p ⊎ (¬ IsKnown records p) → position records (Some p) ≤ gap_of records q
-  by_case (inl known) = let less : version_of records p < gap_of records q = version_before_gap records p q known below in let same : position records (Some p) ≡ version_of records p = position_known records p known in omega arith
-  by_case (inr unknown) = let within : gap_of records p ≤ gap_of records q = gap_grows records p q below in let same : position records (Some p) ≡ gap_of records p = position_unknown records p unknown in omega arith
+  by_case : IsKnown records p ⊎ (¬ IsKnown records p) → position records (Some p) ≤ taking_position records q
+  by_case (inl known) = let less : version_of records p < taking_position records q = version_before_gap records p q known below in let same : position records (Some p) ≡ version_of records p = position_known records p known in omega arith
+  by_case (inr unknown) = let within : taking_position records p ≤ taking_position records q = gap_grows records p q below in let same : position records (Some p) ≡ taking_position records p = position_unknown records p unknown in omega arith
 
-pub gap_within : (records : List Rec) (p : Pair) → gap_of records p ≤ position records (Some p)
+pub gap_within : (records : List Rec) (p : Pair) → taking_position records p ≤ position records (Some p)
 gap_within records p = by_case (known_or_not records p) where
-  by_case : IsKnown records p ⊎ (¬ IsKnown records p) → gap_of records p ≤ position records (Some p)
+  by_case : IsKnown records p ⊎ (¬ IsKnown records p) → taking_position records p ≤ position records (Some p)
   by_case (inl known) = let same : position records (Some p) ≡ version_of records p = position_known records p known in omega arith
-  by_case (inr unknown) = let same : position records (Some p) ≡ gap_of records p = position_unknown records p unknown in omega arith
+  by_case (inr unknown) = let same : position records (Some p) ≡ taking_position records p = position_unknown records p unknown in omega arith
 
 -- a document that has reached a pair has reached its position
 pub reached_position : (records : List Rec) (s : DocState) (p : Pair) → AtMost p s → position records (Some p) ≤ position records (last_pair s)
@@ -72,8 +72,8 @@ reached_position records s p most = by_pair (reached_pair s p most) where
   by_pair (q, is, inl same) =
       let one : position records (Some p) ≡ position records (last_pair s) = ap (λ v. position records (Some v)) same ∙ ap (position records) (sym is) in omega arith
   by_pair (q, is, inr below) =
-      let low : position records (Some p) ≤ gap_of records q = position_before records p q below in
-      let high : gap_of records q ≤ position records (Some q) = gap_within records q in
+      let low : position records (Some p) ≤ taking_position records q = position_before records p q below in
+      let high : taking_position records q ≤ position records (Some q) = gap_within records q in
       let one : position records (last_pair s) ≡ position records (Some q) = ap (position records) is in
       omega arith
 
@@ -88,12 +88,12 @@ position_grows x i j within = by_pair (last_pair (doc_at x i)) refl where
       omega arith
 
 -- where a pair is taken the document is before its gap
-pub position_below : (x : Explained) (i : ℕ) (q : Pair) → Exceeds q (doc_at x i) → position_at x i ≤ gap_of (recs x) q
+pub position_below : (x : Explained) (i : ℕ) (q : Pair) → Exceeds q (doc_at x i) → position_at x i ≤ taking_position (recs x) q
 position_below x i q exceeds = by_pair (last_pair (doc_at x i)) refl where
-  by_pair : (o : Option Pair) → last_pair (doc_at x i) ≡ o → position_at x i ≤ gap_of (recs x) q
+  by_pair : (o : Option Pair) → last_pair (doc_at x i) ≡ o → position_at x i ≤ taking_position (recs x) q
   by_pair None is = let zero_here : position_at x i ≡ 0 = ap (position (recs x)) is in omega arith
   by_pair (Some p) is =
-      let low : position (recs x) (Some p) ≤ gap_of (recs x) q = position_before (recs x) p q (exceeds_above (doc_at x i) p q is exceeds) in
+      let low : position (recs x) (Some p) ≤ taking_position (recs x) q = position_before (recs x) p q (exceeds_above (doc_at x i) p q is exceeds) in
       let same : position_at x i ≡ position (recs x) (Some p) = ap (position (recs x)) is in
       omega arith
 
@@ -106,7 +106,7 @@ taken_earlier x v k j reached = by_order (cases_lt k.place j) where
   by_order (inl first) = first
   by_order (inr not) =
       let grows : position_at x j ≤ position_at x k.place = position_grows x j k.place not in
-      let low : position_at x k.place ≤ gap_of (recs x) v = position_below x k.place v (performs_at x k.place k.placed v k.entry k.takes).rises in
+      let low : position_at x k.place ≤ taking_position (recs x) v = position_below x k.place v (performs_at x k.place k.placed v k.entry k.takes).rises in
       absurd (omega arith)
 
 -- a known pair below one that is taken at a place is taken before
@@ -182,7 +182,7 @@ may_take x k p w q event of takes unanswered called = record {
   called = called;
   above = (
       let here : floor_of x of.listed.0 ≡ position_at x k = floor_is x of.listed.0 w of.listed.1 ∙ ap (position_at x) (place_of_record x k p w of) in
-      let low : position_at x k ≤ gap_of (recs x) q = position_below x k q performs.rises in
+      let low : position_at x k ≤ taking_position (recs x) q = position_below x k q performs.rises in
       omega arith
       );
   condition = λ c is. (

@@ -9,7 +9,7 @@ use Rattle.doc_register.specs.declared.op.Op.TheVariants.{Delete}
 use Rattle.doc_register.specs.Register.{condition_of, value_of}
 use Rattle.events.specs.declared.record.Rec.{Rec}
 use Rattle.version_pair.proofs.ListLemmas.{get_snoc, none_is_not_some, same_some}
-use Rattle.ruled_out.specs.declared.walk.Walk.{Walk}
+use Rattle.ruled_out.specs.declared.walk.EventWalk.{EventWalk}
 use Rattle.ruled_out.specs.declared.writers.Writers.{Writers}
 use Rattle.ruled_out.specs.Reported.{IsGone, IsKnown, IsReportedOf}
 use Rattle.ruled_out.specs.Positions.{version_of}
@@ -159,7 +159,7 @@ writers_same records floors f w writers at not are = record {
 -- ---- what the walk knows
 
 -- where the next call may do nothing that isn't reported, the walk knows all of it
-pub knows_nothing : (records : List Rec) (floors : List ℕ) (f : ℕ) (w : Rec) (walk : Walk) → slice_get records (length floors) ≡ Some w → ((c : Option Pair) → w.heard ≡ None → w.op ≡ Delete c → ⊥) → ((k : ℕ) → w.heard ≡ None → value_of w.op ≡ Some k → ⊥)
+pub knows_nothing : (records : List Rec) (floors : List ℕ) (f : ℕ) (w : Rec) (walk : EventWalk) → slice_get records (length floors) ≡ Some w → ((c : Option Pair) → w.heard ≡ None → w.op ≡ Delete c → ⊥) → ((k : ℕ) → w.heard ≡ None → value_of w.op ≡ Some k → ⊥)
     → Knows records floors walk → Knows records (floors ++ f ∷ []) walk
 knows_nothing records floors f w walk at no_delete no_write knows = record {
   versions = knows.versions;
@@ -172,7 +172,7 @@ knows_nothing records floors f w walk at no_delete no_write knows = record {
 }
 
 -- a delete without a reply
-pub knows_delete : (records : List Rec) (floors : List ℕ) (f : ℕ) (w : Rec) (c : Option Pair) (old new : Walk) → IsNextCall records floors w → w.op ≡ Delete c → new ≡ record old { absent = new.absent }
+pub knows_delete : (records : List Rec) (floors : List ℕ) (f : ℕ) (w : Rec) (c : Option Pair) (old new : EventWalk) → IsNextCall records floors w → w.op ≡ Delete c → new ≡ record old { absent = new.absent }
     → KeepsRooms records new.absent → IsOfferedTo records c f old.absent.positions new.absent.positions → Knows records floors old → Knows records (floors ++ f ∷ []) new
 knows_delete records floors f w c old new next is same rooms offered knows = subst (Knows records (floors ++ f ∷ [])) (sym same) (record {
   versions = knows.versions;
@@ -187,7 +187,7 @@ knows_delete records floors f w c old new next is same rooms offered knows = sub
   no_write k none gives = none_is_not_some k (sym (ap value_of is) ∙ gives)
 
 -- a write that gives a number, without a reply
-pub knows_write : (records : List Rec) (floors : List ℕ) (f : ℕ) (w : Rec) (k : ℕ) (old new : Walk) → IsNextCall records floors w → value_of w.op ≡ Some k → new ≡ record old { present = new.present; writers = new.writers }
+pub knows_write : (records : List Rec) (floors : List ℕ) (f : ℕ) (w : Rec) (k : ℕ) (old new : EventWalk) → IsNextCall records floors w → value_of w.op ≡ Some k → new ≡ record old { present = new.present; writers = new.writers }
     → KeepsRooms records new.present → IsOfferedTo records (condition_of w.op) f old.present.positions new.present.positions → AreWriters records (floors ++ f ∷ []) new.writers → Knows records floors old → Knows records (floors ++ f ∷ []) new
 knows_write records floors f w k old new next gives same rooms offered writers knows = subst (Knows records (floors ++ f ∷ [])) (sym same) (record {
   versions = knows.versions;
@@ -203,7 +203,7 @@ knows_write records floors f w k old new next gives same rooms offered writers k
 
 -- ---- the start
 
-pub knows_first : (records : List Rec) (walk : Walk) → AreOf records walk.versions → IsReportedAbsent records walk.absent.positions → IsReportedPresent records walk.present.positions → KeepsRooms records walk.absent → KeepsRooms records walk.present
+pub knows_first : (records : List Rec) (walk : EventWalk) → AreOf records walk.versions → IsReportedAbsent records walk.absent.positions → IsReportedPresent records walk.present.positions → KeepsRooms records walk.absent → KeepsRooms records walk.present
     → AreWriters records [] walk.writers → walk.settled ≡ 0 → Knows records [] walk
 knows_first records walk versions away there away_rooms there_rooms writers start = record {
   versions = versions;
@@ -233,7 +233,7 @@ knows_first records walk versions away there away_rooms there_rooms writers star
 -- ---- known pairs that were taken
 
 -- one more known pair that a call took
-pub taken_so_far : (records : List Rec) (walk : Walk) (place : ℕ) (pair : Pair) → slice_get walk.versions.known.pairs.items place ≡ Some pair → IsTaken records walk.floors.items pair → AreTaken records walk place → AreTaken records walk (place + 1)
+pub taken_so_far : (records : List Rec) (walk : EventWalk) (place : ℕ) (pair : Pair) → slice_get walk.versions.known.pairs.items place ≡ Some pair → IsTaken records walk.floors.items pair → AreTaken records walk place → AreTaken records walk (place + 1)
 taken_so_far records walk place pair at taken are j v before there = by_place (cases_lt j place) where
   by_place : ((j < place) ⊎ (place ≤ j)) → IsTaken records walk.floors.items v
   by_place (inl low) = are j v low there
@@ -243,15 +243,15 @@ taken_so_far records walk place pair at taken are j v before there = by_place (c
       subst (IsTaken records walk.floors.items) one taken
 
 -- behind the last known pair there is none
-pub taken_past : (records : List Rec) (walk : Walk) (place end : ℕ) → length walk.versions.known.pairs.items ≤ place → AreTaken records walk place → AreTaken records walk end
+pub taken_past : (records : List Rec) (walk : EventWalk) (place end : ℕ) → length walk.versions.known.pairs.items ≤ place → AreTaken records walk place → AreTaken records walk end
 taken_past records walk place end past are j v before there = are j v (let inside : j < length walk.versions.known.pairs.items = slice_get_within walk.versions.known.pairs.items j v there in omega arith) there
 
-pub untaken_past : (records : List Rec) (walk : Walk) (place : ℕ) → length walk.versions.known.pairs.items ≤ place → IsUntaken records walk place
+pub untaken_past : (records : List Rec) (walk : EventWalk) (place : ℕ) → length walk.versions.known.pairs.items ≤ place → IsUntaken records walk place
 untaken_past records walk place past v there = absurd (let inside : place < length walk.versions.known.pairs.items = slice_get_within walk.versions.known.pairs.items place v there in no_both inside past) where
   no_both : {m n : ℕ} → m < n → n ≤ m → ⊥
   no_both less more = omega arith
 
-pub settled_to : (records : List Rec) (walk : Walk) (place : ℕ) → AreTaken records walk place → Knows records walk.floors.items walk → Knows records walk.floors.items (record walk { settled = place })
+pub settled_to : (records : List Rec) (walk : EventWalk) (place : ℕ) → AreTaken records walk place → Knows records walk.floors.items walk → Knows records walk.floors.items (record walk { settled = place })
 settled_to records walk place taken k = record {
   versions = k.versions;
   absent = k.absent;
@@ -269,7 +269,7 @@ answered_is None is none = true≢false (sym is)
 answered_is (Some x) is none = none_is_not_some x (sym none)
 
 -- what the walk knows doesn't hang on its floors, nor on what is reached
-pub still_knows : (records : List Rec) (floors : List ℕ) (walk : Walk) (vec : Vec ℕ Global) (n : ℕ) → Knows records floors walk → Knows records floors (record walk { floors = vec; reached = n })
+pub still_knows : (records : List Rec) (floors : List ℕ) (walk : EventWalk) (vec : Vec ℕ Global) (n : ℕ) → Knows records floors walk → Knows records floors (record walk { floors = vec; reached = n })
 still_knows records floors walk vec n k = record {
   versions = k.versions;
   absent = k.absent;

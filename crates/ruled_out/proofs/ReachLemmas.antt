@@ -6,7 +6,7 @@ use Rattle.version_pair.specs.declared.pair.Pair.{Pair}
 use Rattle.version_pair.specs.PairOrder.{IsBelow}
 use Rattle.events.specs.declared.record.Rec.{Rec}
 use Rattle.version_pair.proofs.ListLemmas.{none_is_not_some}
-use Rattle.ruled_out.specs.declared.walk.Walk.{Walk}
+use Rattle.ruled_out.specs.declared.walk.EventWalk.{EventWalk}
 use Rattle.ruled_out.specs.Reported.{IsKnown, IsReportedOf}
 use Rattle.ruled_out.specs.Positions.{version_of}
 use Rattle.ruled_out.specs.aids.Standing.{IsReachedBy, IsTaken}
@@ -20,14 +20,14 @@ unreported_written records floors v not (inl reported) = absurd (not reported)
 unreported_written records floors v not (inr written) = written
 
 -- where all known pairs were passed each position is reached
-pub reached_end : (records : List Rec) (floors : List ℕ) (walk : Walk) (n : ℕ) → Knows records floors walk → length walk.versions.known.pairs.items ≤ walk.settled → IsReachedBy records floors n
+pub reached_end : (records : List Rec) (floors : List ℕ) (walk : EventWalk) (n : ℕ) → Knows records floors walk → length walk.versions.known.pairs.items ≤ walk.settled → IsReachedBy records floors n
 reached_end records floors walk n knows past v known unreported within =
     let there = known_there records walk.versions.known.pairs.items v knows.versions.known known in
     let inside : there.0 < length walk.versions.known.pairs.items = slice_get_within walk.versions.known.pairs.items there.0 v there.1 in
     unreported_written records floors v unreported (knows.settled there.0 v (omega arith) there.1)
 
 -- else the positions before that of the first pair that wasn't passed
-pub reached_below : (records : List Rec) (floors : List ℕ) (walk : Walk) (p : Pair) (n : ℕ) → Knows records floors walk → slice_get walk.versions.known.pairs.items walk.settled ≡ Some p → n < version_of records p → IsReachedBy records floors n
+pub reached_below : (records : List Rec) (floors : List ℕ) (walk : EventWalk) (p : Pair) (n : ℕ) → Knows records floors walk → slice_get walk.versions.known.pairs.items walk.settled ≡ Some p → n < version_of records p → IsReachedBy records floors n
 reached_below records floors walk p n knows at below v is unreported within = by_place (cases_lt there.0 walk.settled) where
   vs : List Pair
   vs = walk.versions.known.pairs.items

@@ -11,7 +11,7 @@ use Rattle.events.proofs.PlaceLemmas.{take_next}
 use Rattle.version_pair.proofs.ListLemmas.{get_front, get_last, get_snoc, get_within, none_is_not_some, same_some}
 use Rattle.std.specs.Option.{option_to_list}
 use Rattle.ruled_out.specs.Reported.{IsKnown, known_pairs}
-use Rattle.ruled_out.specs.Positions.{count_below, gap_of, version_of}
+use Rattle.ruled_out.specs.Positions.{count_below, taking_position, version_of}
 use Rattle.ruled_out.specs.aids.Above.{IsAbove, IsLeastAbove}
 use Rattle.ruled_out.specs.aids.KnownPairs.{AreKnown, HasRoom, IsGapAbove, IsLastKnown, IsNextKnown, IsVersionOf}
 use Rattle.ruled_out.specs.aids.Places.{Gives, RoomBehind}
@@ -35,7 +35,7 @@ known_above records lower q least known n = (λ is. absurd (none_is_not_some n i
   by_order h (inr below) = h.next q known least.0 below
 
 -- a pair with room has as many known pairs below it as the least pair above the lower one
-room_at : (records : List Rec) (lower : Option Pair) (q : Pair) (n : ℕ) → IsLeastAbove lower (Some q) → HasRoom records lower n → n ≡ gap_of records q
+room_at : (records : List Rec) (lower : Option Pair) (q : Pair) (n : ℕ) → IsLeastAbove lower (Some q) → HasRoom records lower n → n ≡ taking_position records q
 room_at records lower q n least h = by_order (least.1 h.pair h.behind) where
   by_place : (i : ℕ) (v : Pair) → slice_get (known_pairs records) i ≡ Some v → IsBelow v h.pair → IsBelow v q
   by_place i v at below = by_case (pair_order v q) where
@@ -47,16 +47,16 @@ room_at records lower q n least h = by_order (least.1 h.pair h.behind) where
       behind None is = tt
       behind (Some b) is = below_trans b q v is above
 
-  by_order : (h.pair ≡ q) ⊎ IsBelow q h.pair → n ≡ gap_of records q
-  by_order (inl same) = h.there ∙ ap (gap_of records) same
+  by_order : (h.pair ≡ q) ⊎ IsBelow q h.pair → n ≡ taking_position records q
+  by_order (inl same) = h.there ∙ ap (taking_position records) same
   by_order (inr below) = h.there ∙ ap (λ m. suc (2 * m)) (count_same (known_pairs records) q h.pair below by_place)
 
-pub room_above : (records : List Rec) (lower : Option Pair) (q : Pair) → IsLeastAbove lower (Some q) → ¬ IsKnown records q → IsGapAbove records lower (Some (gap_of records q))
+pub room_above : (records : List Rec) (lower : Option Pair) (q : Pair) → IsLeastAbove lower (Some q) → ¬ IsKnown records q → IsGapAbove records lower (Some (taking_position records q))
 room_above records lower q least unknown n = (
   λ is. record {
     pair = q;
     unknown = unknown;
-    there = sym (same_some (gap_of records q) n is);
+    there = sym (same_some (taking_position records q) n is);
     behind = least.0;
     next = λ v known behind below. by_order v below (least.1 v behind);
   },

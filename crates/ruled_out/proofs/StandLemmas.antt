@@ -13,9 +13,9 @@ use Rattle.doc_register.specs.declared.reply.Reply.{Reply}
 use Rattle.doc_register.specs.declared.reply.Reply.TheVariants.{Found}
 use Rattle.events.specs.Heard.{pair_of}
 use Rattle.version_pair.proofs.ListLemmas.{none_is_not_some, same_some}
-use Rattle.ruled_out.specs.declared.walk.Walk.{Walk}
+use Rattle.ruled_out.specs.declared.walk.EventWalk.{EventWalk}
 use Rattle.ruled_out.specs.Reported.{IsGone, IsKnown, IsListed, pair_shown}
-use Rattle.ruled_out.specs.Positions.{gap_of, version_of}
+use Rattle.ruled_out.specs.Positions.{taking_position, version_of}
 use Rattle.ruled_out.specs.Placings.{MayBeAbsent, MayBePresent, MayConflict, MayRefuse, MayWrite}
 use Rattle.ruled_out.specs.aids.Sets.{IsLeastFrom}
 use Rattle.ruled_out.specs.aids.Standing.{IsSomehow, KnowsBefore, MayBeSo}
@@ -24,7 +24,7 @@ use Rattle.ruled_out.specs.aids.VersionsOf.{IsLeastAfter, IsPresentWith}
 
 -- ---- a refused write
 
-somehow_refused : (records : List Rec) (floors : ℕ → ℕ) (event : ℕ) (walk : Walk) (b : Pair) (o : Option ℕ) (n : ℕ) → KnowsBefore records floors event walk → IsPresentWith records b o → ((o ≡ Some n) → ⊥) → IsSomehow walk n
+somehow_refused : (records : List Rec) (floors : ℕ → ℕ) (event : ℕ) (walk : EventWalk) (b : Pair) (o : Option ℕ) (n : ℕ) → KnowsBefore records floors event walk → IsPresentWith records b o → ((o ≡ Some n) → ⊥) → IsSomehow walk n
     → MayRefuse records floors event b n
 somehow_refused records floors event walk b o n knows with_b apart somehow = record { some = by_part somehow; other = λ known stays same. by_option o with_b apart known stays same } where
   by_part : IsSomehow walk n → MayBeAbsent records floors event n ⊎ MayBePresent records floors event n
@@ -35,7 +35,7 @@ somehow_refused records floors event walk b o n knows with_b apart somehow = rec
   by_option None gone other known stays same = stays (gone known)
   by_option (Some m) is other known stays same = other (ap (λ k. Some k) (is.2 ∙ sym same))
 
-refused_somehow : (records : List Rec) (floors : ℕ → ℕ) (event : ℕ) (walk : Walk) (b : Pair) (n : ℕ) → KnowsBefore records floors event walk → MayRefuse records floors event b n → IsSomehow walk n
+refused_somehow : (records : List Rec) (floors : ℕ → ℕ) (event : ℕ) (walk : EventWalk) (b : Pair) (n : ℕ) → KnowsBefore records floors event walk → MayRefuse records floors event b n → IsSomehow walk n
 refused_somehow records floors event walk b n knows r = by_part r.some where
   by_part : MayBeAbsent records floors event n ⊎ MayBePresent records floors event n → IsSomehow walk n
   by_part (inl away) = inl ((knows.absent n).1 away)
@@ -44,10 +44,10 @@ refused_somehow records floors event walk b n knows r = by_part r.some where
 refused_apart : (records : List Rec) (floors : ℕ → ℕ) (event : ℕ) (b : Pair) (n m : ℕ) → IsPresentWith records b (Some n) → MayRefuse records floors event b m → m ≢ n
 refused_apart records floors event b n m is r same = r.other is.0 is.1 (same ∙ is.2)
 
-pub refused_none : (records : List Rec) (floors : ℕ → ℕ) (event floor : ℕ) (walk : Walk) (b : Pair) → KnowsBefore records floors event walk → IsLeastFrom (IsSomehow walk) floor None → IsLeastFrom (MayRefuse records floors event b) floor None
+pub refused_none : (records : List Rec) (floors : ℕ → ℕ) (event floor : ℕ) (walk : EventWalk) (b : Pair) → KnowsBefore records floors event walk → IsLeastFrom (IsSomehow walk) floor None → IsLeastFrom (MayRefuse records floors event b) floor None
 refused_none records floors event floor walk b knows none q r = none q (refused_somehow records floors event walk b q knows r)
 
-pub refused_one : (records : List Rec) (floors : ℕ → ℕ) (event floor n : ℕ) (walk : Walk) (b : Pair) (o : Option ℕ) → KnowsBefore records floors event walk → IsLeastFrom (IsSomehow walk) floor (Some n) → IsPresentWith records b o → ((o ≡ Some n) → ⊥)
+pub refused_one : (records : List Rec) (floors : ℕ → ℕ) (event floor n : ℕ) (walk : EventWalk) (b : Pair) (o : Option ℕ) → KnowsBefore records floors event walk → IsLeastFrom (IsSomehow walk) floor (Some n) → IsPresentWith records b o → ((o ≡ Some n) → ⊥)
     → IsLeastFrom (MayRefuse records floors event b) floor (Some n)
 refused_one records floors event floor n walk b o knows least is apart = (
   somehow_refused records floors event walk b o n knows is apart least.0,
@@ -55,7 +55,7 @@ refused_one records floors event floor n walk b o knows least is apart = (
   λ q r over. least.2 q (refused_somehow records floors event walk b q knows r) over,
 )
 
-pub refused_next : (records : List Rec) (floors : ℕ → ℕ) (event floor n : ℕ) (walk : Walk) (b : Pair) (r : Option ℕ) → KnowsBefore records floors event walk → IsLeastFrom (IsSomehow walk) floor (Some n) → IsPresentWith records b (Some n)
+pub refused_next : (records : List Rec) (floors : ℕ → ℕ) (event floor n : ℕ) (walk : EventWalk) (b : Pair) (r : Option ℕ) → KnowsBefore records floors event walk → IsLeastFrom (IsSomehow walk) floor (Some n) → IsPresentWith records b (Some n)
     → IsLeastFrom (IsSomehow walk) (n + 1) r → IsLeastFrom (MayRefuse records floors event b) floor r
 refused_next records floors event floor n walk b None knows least is none = λ q r. by_order q r (cases_lt q floor) where
   by_order : (q : ℕ) → MayRefuse records floors event b q → ((q < floor) ⊎ (floor ≤ q)) → q < floor
@@ -117,7 +117,7 @@ so_present records floors event true n so is = absurd (true≢false is)
 so_present records floors event false n so is = so
 
 pub written_some : (records : List Rec) (floors : ℕ → ℕ) (event floor after from n : ℕ) (c : Rec) (q : Pair) (absent : Bool) → IsLeastAfter records q after → IsStart floor after from
-    → IsLeastFrom (MayBeSo records floors event absent) from (Some n) → n ≤ gap_of records q → IsMet records c q absent n → IsLeastFrom (MayWrite records floors event c q absent) floor (Some n)
+    → IsLeastFrom (MayBeSo records floors event absent) from (Some n) → n ≤ taking_position records q → IsMet records c q absent n → IsLeastFrom (MayWrite records floors event c q absent) floor (Some n)
 written_some records floors event floor after from n c q absent is start least before met = (
   record {
     before = before;
@@ -131,7 +131,7 @@ written_some records floors event floor after from n c q absent is start least b
 )
 
 pub written_not : (records : List Rec) (floors : ℕ → ℕ) (event floor after from n : ℕ) (c : Rec) (q : Pair) (absent : Bool) → IsLeastAfter records q after → IsStart floor after from
-    → ((b : Pair) → condition_of c.op ≡ Some b → IsKnown records b) → IsLeastFrom (MayBeSo records floors event absent) from (Some n) → ((n ≤ gap_of records q) → IsMet records c q absent n → ⊥)
+    → ((b : Pair) → condition_of c.op ≡ Some b → IsKnown records b) → IsLeastFrom (MayBeSo records floors event absent) from (Some n) → ((n ≤ taking_position records q) → IsMet records c q absent n → ⊥)
     → IsLeastFrom (MayWrite records floors event c q absent) floor None
 written_not records floors event floor after from n c q absent is start known least not m w = by_order (cases_lt m floor) where
   by_order : ((m < floor) ⊎ (floor ≤ m)) → m < floor
@@ -140,8 +140,8 @@ written_not records floors event floor after from n c q absent is start known le
     first : n ≤ m
     first = least.2 m (written_so records floors event c q absent m w) (start.least m over (written_after records floors event c q absent m after is w))
 
-    before : n ≤ gap_of records q
-    before = let up : n ≤ m = first in let most : m ≤ gap_of records q = w.before in omega arith
+    before : n ≤ taking_position records q
+    before = let up : n ≤ m = first in let most : m ≤ taking_position records q = w.before in omega arith
 
     met : IsMet records c q absent n
     met b asks =

@@ -15,8 +15,8 @@ use Rattle.doc_register.proofs.RunLemmas.{not_below_itself}
 use Rattle.events.specs.declared.record.Rec.{Rec}
 use Rattle.events.specs.Heard.{pair_of}
 use Rattle.version_pair.proofs.ListLemmas.{none_is_not_some, same_some, slice_get-set_other, slice_get-set_same}
-use Rattle.ruled_out.specs.declared.version.Number.{Number}
-use Rattle.ruled_out.specs.declared.version.Number.TheVariants.{Unseen, One, Several}
+use Rattle.ruled_out.specs.declared.version.FoundNumbers.{FoundNumbers}
+use Rattle.ruled_out.specs.declared.version.FoundNumbers.TheVariants.{Unseen, One, Several}
 use Rattle.ruled_out.specs.declared.version.Version.{Version}
 use Rattle.ruled_out.specs.Reported.{IsFoundWith, IsGone, IsKnown, IsListed, IsReportedOf, known_pairs, pair_shown}
 use Rattle.ruled_out.specs.Positions.{count_below, is_below}
@@ -183,7 +183,7 @@ gone_with x Missing p shows = absurd (none_is_not_some p shows)
 gone_with x Conflict p shows = absurd (none_is_not_some p shows)
 
 -- one more number
-allows_with : (x : Number) (n k : ℕ) → (allows (number_with x n) k ≡ true) ↔ ((allows x k ≡ true) × (n ≡ k))
+allows_with : (x : FoundNumbers) (n k : ℕ) → (allows (number_with x n) k ≡ true) ↔ ((allows x k ≡ true) × (n ≡ k))
 allows_with Unseen n k = (λ is. (refl, eqb-true n k is), λ both. eq-eqb n k both.1)
 allows_with (One m) n k = by_test (m == n) refl where
   by_test : (b : Bool) → (m == n) ≡ b → (allows (cond b (One m) Several) k ≡ true) ↔ (((m == k) ≡ true) × (n ≡ k))

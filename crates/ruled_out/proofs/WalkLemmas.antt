@@ -11,7 +11,7 @@ use Rattle.doc_register.specs.declared.reply.Reply.TheVariants.{Indexed, Deleted
 use Rattle.events.specs.declared.record.Rec.{Rec}
 use Rattle.events.specs.Heard.{pair_of}
 use Rattle.version_pair.proofs.ListLemmas.{same_some}
-use Rattle.ruled_out.specs.Positions.{gap_of, position_after}
+use Rattle.ruled_out.specs.Positions.{taking_position, position_after}
 use Rattle.ruled_out.specs.Placings.{AreInOrder, IsPlacing, IsReached, IsRuledOut, Lifts, MayAnswer, MayBeAbsent, MayBePresent, MayChange, MayConflict, MayRefuse, MayStand, MayTake, MayWrite}
 use Rattle.ruled_out.specs.aids.Walks.{IsAnswerAt, IsEarliest, IsWalked}
 
@@ -26,7 +26,7 @@ take_lower records low high event i w p lower t = record {
   at = t.at;
   unanswered = t.unanswered;
   called = t.called;
-  above = (let below : low i ≤ high i = lower i w t.at t.called in let under : high i ≤ gap_of records p = t.above in omega arith);
+  above = (let below : low i ≤ high i = lower i w t.at t.called in let under : high i ≤ taking_position records p = t.above in omega arith);
   condition = t.condition;
 }
 

@@ -10,10 +10,10 @@ use Rattle.doc_register.specs.Register.{condition_of, value_of}
 use Rattle.doc_register.proofs.RunLemmas.{not_below_itself}
 use Rattle.events.specs.declared.record.Rec.{Rec}
 use Rattle.version_pair.proofs.ListLemmas.{get_front, get_last, get_snoc, none_is_not_some, same_some, slice_get-set_other, slice_get-set_same}
-use Rattle.ruled_out.specs.declared.version.Number.{Number}
+use Rattle.ruled_out.specs.declared.version.FoundNumbers.{FoundNumbers}
 use Rattle.ruled_out.specs.declared.writers.Writers.{Writers}
 use Rattle.ruled_out.specs.Reported.{IsFoundWith, IsKnown, known_pairs}
-use Rattle.ruled_out.specs.Positions.{IsNext, count_below, gap_of}
+use Rattle.ruled_out.specs.Positions.{IsNext, count_below, taking_position}
 use Rattle.ruled_out.specs.aids.KnownPairs.{IsNextKnown}
 use Rattle.ruled_out.specs.aids.Sets.{IsFrom}
 use Rattle.ruled_out.specs.aids.Versions.{allows}
@@ -40,7 +40,7 @@ taken_kept records floors f u p t = record {
   meets = t.meets;
 }
 
-pub taken_next : (records : List Rec) (floors : List ℕ) (f : ℕ) (w : Rec) (p : Pair) → IsNextCall records floors w → f ≤ gap_of records p → Meets records (condition_of w.op) p → HasTaken records (floors ++ f ∷ []) w p
+pub taken_next : (records : List Rec) (floors : List ℕ) (f : ℕ) (w : Rec) (p : Pair) → IsNextCall records floors w → f ≤ taking_position records p → Meets records (condition_of w.op) p → HasTaken records (floors ++ f ∷ []) w p
 taken_next records floors f w p next above meets = record {
   number = length floors;
   at = next.at;
@@ -54,7 +54,7 @@ taken_next records floors f w p next above meets = record {
 -- what the next call may have taken
 pub record TakesNext (records : List Rec) (f : ℕ) (w u : Rec) (p : Pair) : Type 0 where
   pub same : w ≡ u
-  pub above : f ≤ gap_of records p
+  pub above : f ≤ taking_position records p
   pub meets : Meets records (condition_of w.op) p
 
 pub taken_more : (records : List Rec) (floors : List ℕ) (f : ℕ) (w u : Rec) (p : Pair) → slice_get records (length floors) ≡ Some w → HasTaken records (floors ++ f ∷ []) u p → HasTaken records floors u p ⊎ TakesNext records f w u p
@@ -65,7 +65,7 @@ taken_more records floors f w u p at t = by_place (get_snoc floors f t.floor t.n
       let one : w ≡ u = same_some w u (sym at ∙ (ap (slice_get records) (sym end.0) ∙ t.at)) in
       inr (record {
         same = one;
-        above = subst (λ n. n ≤ gap_of records p) (sym end.1) t.above;
+        above = subst (λ n. n ≤ taking_position records p) (sym end.1) t.above;
         meets = subst (λ (v : Rec). Meets records (condition_of v.op) p) (sym one) t.meets;
       })
 
@@ -126,7 +126,7 @@ pub record SwapsNext (records : List Rec) (f : ℕ) (w : Rec) (v : Pair) : Type 
   pub gives : value_of w.op ≡ Some value
   pub swaps : condition_of w.op ≡ Some condition
   pub found : (k : ℕ) → IsFoundWith records v k → k ≡ value
-  pub above : f ≤ gap_of records v
+  pub above : f ≤ taking_position records v
   pub behind : IsBelow condition v
   pub next : IsNext records condition v
 
@@ -229,7 +229,7 @@ writers_free records floors w k f least any old new next gives free lesser lower
 
 -- what a write under a condition may have taken
 abbrev pub SwapsTo : List Rec → ℕ → ℕ → Pair → Pair → Type 0
-SwapsTo records f k c v = (f ≤ gap_of records v) × ((n : ℕ) → IsFoundWith records v n → n ≡ k) × IsBelow c v × IsNext records c v
+SwapsTo records f k c v = (f ≤ taking_position records v) × ((n : ℕ) → IsFoundWith records v n → n ≡ k) × IsBelow c v × IsNext records c v
 
 -- one more write under a condition
 pub writers_swap : (records : List Rec) (floors : List ℕ) (w : Rec) (k f : ℕ) (c : Pair) (old new : Writers) → IsNextCall records floors w → value_of w.op ≡ Some k → condition_of w.op ≡ Some c
@@ -288,7 +288,7 @@ next_one records c p v is known behind next = by_order (pair_order p v) where
   by_order (inr (inr above)) = absurd (is.2 v known behind above)
 
 -- they stay where the next known pair can't have been taken
-pub flags_kept : (records : List Rec) (f k : ℕ) (c p : Pair) (flags : List Bool) → IsNextKnown records c (Some p) → ((f ≤ gap_of records p) × ((n : ℕ) → IsFoundWith records p n → n ≡ k) → ⊥)
+pub flags_kept : (records : List Rec) (f k : ℕ) (c p : Pair) (flags : List Bool) → IsNextKnown records c (Some p) → ((f ≤ taking_position records p) × ((n : ℕ) → IsFoundWith records p n → n ≡ k) → ⊥)
     → (v : Pair) (b : Bool) → IsKnown records v → slice_get flags (count_below (known_pairs records) v) ≡ Some b
     → (d : Bool) × (slice_get flags (count_below (known_pairs records) v) ≡ Some d) × ((d ≡ true) ↔ ((b ≡ true) ⊎ SwapsTo records f k c v))
 flags_kept records f k c p flags is not v b known at = (b, at, (λ flag. inl flag, by_case)) where
@@ -296,10 +296,10 @@ flags_kept records f k c p flags is not v b known at = (b, at, (λ flag. inl fla
   by_case (inl flag) = flag
   by_case (inr to) =
       let one : p ≡ v = next_one records c p v is known to.2 to.3 in
-      absurd (not (subst (λ (u : Pair). (f ≤ gap_of records u) × ((n : ℕ) → IsFoundWith records u n → n ≡ k)) (sym one) (to.0, to.1)))
+      absurd (not (subst (λ (u : Pair). (f ≤ taking_position records u) × ((n : ℕ) → IsFoundWith records u n → n ≡ k)) (sym one) (to.0, to.1)))
 
 pub flags_set : (records : List Rec) (f k : ℕ) (c p : Pair) (place : ℕ) (flags : List Bool) → IsNextKnown records c (Some p) → place ≡ count_below (known_pairs records) p → place < length flags
-    → (f ≤ gap_of records p) × ((n : ℕ) → IsFoundWith records p n → n ≡ k)
+    → (f ≤ taking_position records p) × ((n : ℕ) → IsFoundWith records p n → n ≡ k)
     → (v : Pair) (b : Bool) → IsKnown records v → slice_get flags (count_below (known_pairs records) v) ≡ Some b
     → (d : Bool) × (slice_get (set flags place true) (count_below (known_pairs records) v) ≡ Some d) × ((d ≡ true) ↔ ((b ≡ true) ⊎ SwapsTo records f k c v))
 flags_set records f k c p place flags is count within may v b known at = by_order (pair_order p v) where
@@ -340,10 +340,10 @@ flags_past records floors p place writers known count past are =
 -- ---- what may have been written
 
 -- a write under a condition may have taken the pair, or one without
-pub written_by : (records : List Rec) (floors : List ℕ) (v : Pair) (number : Number) → ((k : ℕ) → (allows number k ≡ true) ↔ ((n : ℕ) → IsFoundWith records v n → n ≡ k))
-    → IsWritten records floors v → IsSwapped records floors v ⊎ ((k : ℕ) × (allows number k ≡ true) × IsGiven records floors k (gap_of records v))
+pub written_by : (records : List Rec) (floors : List ℕ) (v : Pair) (number : FoundNumbers) → ((k : ℕ) → (allows number k ≡ true) ↔ ((n : ℕ) → IsFoundWith records v n → n ≡ k))
+    → IsWritten records floors v → IsSwapped records floors v ⊎ ((k : ℕ) × (allows number k ≡ true) × IsGiven records floors k (taking_position records v))
 written_by records floors v number fits (w, value, gives, found, taken) = by_condition (condition_of w.op) refl where
-  by_condition : (o : Option Pair) → condition_of w.op ≡ o → IsSwapped records floors v ⊎ ((k : ℕ) × (allows number k ≡ true) × IsGiven records floors k (gap_of records v))
+  by_condition : (o : Option Pair) → condition_of w.op ≡ o → IsSwapped records floors v ⊎ ((k : ℕ) × (allows number k ≡ true) × IsGiven records floors k (taking_position records v))
   by_condition (Some c) is = inl (record { call = w; value = value; condition = c; gives = gives; swaps = is; found = found; taken = taken })
   by_condition None is = inr (
     value,
@@ -361,8 +361,8 @@ written_by records floors v number fits (w, value, gives, found, taken) = by_con
     },
   )
 
-pub by_written : (records : List Rec) (floors : List ℕ) (v : Pair) (number : Number) → ((k : ℕ) → (allows number k ≡ true) ↔ ((n : ℕ) → IsFoundWith records v n → n ≡ k))
-    → IsSwapped records floors v ⊎ ((k : ℕ) × (allows number k ≡ true) × IsGiven records floors k (gap_of records v)) → IsWritten records floors v
+pub by_written : (records : List Rec) (floors : List ℕ) (v : Pair) (number : FoundNumbers) → ((k : ℕ) → (allows number k ≡ true) ↔ ((n : ℕ) → IsFoundWith records v n → n ≡ k))
+    → IsSwapped records floors v ⊎ ((k : ℕ) × (allows number k ≡ true) × IsGiven records floors k (taking_position records v)) → IsWritten records floors v
 by_written records floors v number fits (inl s) = (s.call, s.value, s.gives, s.found, s.taken)
 by_written records floors v number fits (inr (k, is, g)) = (
   g.call,

@@ -12,7 +12,7 @@ use Rattle.doc_register.specs.Register.{condition_of, value_of}
 use Rattle.events.specs.declared.record.Rec.{Rec}
 use Rattle.events.specs.Heard.{pair_of}
 use Rattle.ruled_out.specs.Reported.{IsFoundWith, IsGone, IsKnown, IsReportedOf}
-use Rattle.ruled_out.specs.Positions.{IsNext, gap_of, position_after, version_of}
+use Rattle.ruled_out.specs.Positions.{IsNext, taking_position, position_after, version_of}
 
 -- The records are those of a document as reported. The floor of each record, by its number, is a position
 -- that the document has reached when the call is made: no call that is made then is below it.
@@ -30,7 +30,7 @@ pub record MayTake (records : List Rec) (floor : ℕ → ℕ) (event i : ℕ) (w
   -- it was made by then
   pub called : w.call_at < event
   -- the position of the pair is not below its floor
-  pub above : floor i ≤ gap_of records p
+  pub above : floor i ≤ taking_position records p
   -- if it has a condition, that is below the pair, with no known pair between
   pub condition : (c : Pair) → condition_of w.op ≡ Some c → IsBelow c p × IsNext records c p
 
@@ -44,7 +44,7 @@ pub record MayChange (records : List Rec) (floor : ℕ → ℕ) (event n : ℕ) 
   -- the pair is not known
   pub unknown : ¬ IsKnown records pair
   -- its position is n
-  pub there : n ≡ gap_of records pair
+  pub there : n ≡ taking_position records pair
   -- the call may have taken it before the event
   pub takes : MayTake records floor event number call pair
 
@@ -107,7 +107,7 @@ IsReached records floor event n = (v : Pair) → IsKnown records v → (¬ IsRep
 -- Source: profile.
 pub record MayWrite (records : List Rec) (floor : ℕ → ℕ) (event : ℕ) (c : Rec) (q : Pair) (absent : Bool) (n : ℕ) : Type 0 where
   -- it is not after q
-  pub before : n ≤ gap_of records q
+  pub before : n ≤ taking_position records q
   -- it is after each known pair below q
   pub after : (v : Pair) → IsKnown records v → IsBelow v q → version_of records v ≤ n
   -- if it found no document, the document may be missing there

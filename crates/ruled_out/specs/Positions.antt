@@ -19,13 +19,13 @@ count_below (v ∷ vs) p = cond (is_below v p) (suc (count_below vs p)) (count_b
 
 -- the position of a call that takes the pair; and of a document that has the pair, if it is unknown
 -- Source: profile.
-abbrev pub gap_of : List Rec → Pair → ℕ
-gap_of records p = suc (2 * count_below (known_pairs records) p)
+abbrev pub taking_position : List Rec → Pair → ℕ
+taking_position records p = suc (2 * count_below (known_pairs records) p)
 
 -- the position of a document that has the pair, which is known
 -- Source: profile.
 abbrev pub version_of : List Rec → Pair → ℕ
-version_of records p = suc (gap_of records p)
+version_of records p = suc (taking_position records p)
 
 -- no known pair is between the two
 abbrev pub IsNext : List Rec → Pair → Pair → Type 0

@@ -5,24 +5,33 @@ use events::Rec;
 use std::alloc::Global;
 use version_pair::NoMemory;
 
-/// An answered call: the index of its reply in the history, and the number of its record.
-pub type Answer = (usize, usize);
+/// An answered call. The one whose reply comes first is the least.
+#[derive(Clone, Copy, PartialEq, Eq, PartialOrd, Ord)]
+pub struct AnsweredRec {
+    /// The position of its reply.
+    pub reply_at: usize,
+    /// The number of its record.
+    pub rec: usize,
+}
 
 // The answered calls in the order of their records.
-fn answered_calls(alloc: Global, records: &[Rec]) -> Result<Vec<Answer>, NoMemory>
+fn answered_calls(alloc: Global, records: &[Rec]) -> Result<Vec<AnsweredRec>, NoMemory>
     ensures { IfOk result (λ answers. answers.items ≡ answers_from 0 records.now) }
 {
     let mut answers = Vec::new(alloc);
     for k in 0..records.len() {
         if let Some(heard) = records[k].heard {
-            answers.push((heard.0, k))?;
+            answers.push(AnsweredRec {
+                reply_at: heard.0,
+                rec: k,
+            })?;
         }
     }
     Ok(answers)
 }
 
 /// Returns the answered calls in response order.
-pub fn answers_of(alloc: Global, records: &[Rec]) -> Result<Vec<Answer>, NoMemory>
+pub fn answers_of(alloc: Global, records: &[Rec]) -> Result<Vec<AnsweredRec>, NoMemory>
     ensures { IfOk result (λ answers. AreAnswers records.now answers.items) }
 {
     let mut answers = answered_calls(alloc, records)?;

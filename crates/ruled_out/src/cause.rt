@@ -1,5 +1,5 @@
 use crate::versions::Versions;
-use crate::walk::Walk;
+use crate::walk::EventWalk;
 use doc_register::{Op, Reply};
 use events::Rec;
 use version_pair::Pair;
@@ -69,7 +69,7 @@ fn unmet_by(versions: &Versions, write: Write, asked: Pair) -> Unmet {
 
 // Why a write that was performed has no position.
 fn written_cause(versions: &Versions, write: Write, floor: usize) -> Cause {
-    if floor > versions.known.gap_of(write.pair) {
+    if floor > versions.known.taking_position(write.pair) {
         return Cause::Passed(write.pair);
     }
     match write.condition {
@@ -90,7 +90,7 @@ fn refused_cause(op: Op) -> Cause {
 
 /// Returns the reason why the call has no position. The call was made when the document had reached the
 /// floor.
-pub fn cause_of(walk: &Walk, call: &Rec, reply: Reply, floor: usize) -> Cause {
+pub fn cause_of(walk: &EventWalk, call: &Rec, reply: Reply, floor: usize) -> Cause {
     if let (Some(_), Some(pair)) = (walk.first_permitted(call, reply, floor), walk.unwritten()) {
         return Cause::Unwritten(pair);
     }

@@ -4,9 +4,9 @@ ghost use Rattle.ruled_out.specs.Placings.{AreInOrder, IsRuledOutAt};
 ghost use Rattle.ruled_out.specs.aids.Answers.{AreAnswers};
 ghost use Rattle.ruled_out.specs.aids.States.{IsAt};
 
-use crate::answers::{Answer, answers_of};
+use crate::answers::{AnsweredRec, answers_of};
 use crate::reported::reported_records;
-use crate::walk::Walk;
+use crate::walk::EventWalk;
 use doc_register::Conflicts;
 use events::Rec;
 use std::alloc::Global;
@@ -14,9 +14,9 @@ use version_pair::NoMemory;
 
 // The number of the first call, in response order, that has no position.
 fn first_without_position(
-    walk: &mut Walk,
+    walk: &mut EventWalk,
     reported: &[Rec],
-    answers: &[Answer],
+    answers: &[AnsweredRec],
 ) -> Result<Option<u64>, NoMemory>
     requires order { AreInOrder reported.now }
     requires sorted { AreAnswers reported.now answers.now }
@@ -25,11 +25,11 @@ fn first_without_position(
     ensures { IfOk result (IsRuledOutAt reported.now) }
 {
     for answer in answers {
-        walk.pass_until(reported, answer.0)?;
-        let Some(call) = reported.get(answer.1) else {
+        walk.pass_until(reported, answer.reply_at)?;
+        let Some(call) = reported.get(answer.rec) else {
             return Ok(None);
         };
-        if !walk.answer(answer.1, call) {
+        if !walk.answer(answer.rec, call) {
             return Ok(Some(call.no));
         }
     }
@@ -42,7 +42,7 @@ fn ruled_out_as_reported(alloc: Global, reported: &[Rec]) -> Result<Option<u64>,
     ensures { IfOk result (IsRuledOutAt reported.now) }
 {
     let answers = answers_of(alloc, reported)?;
-    let mut walk = Walk::new(alloc, reported)?;
+    let mut walk = EventWalk::new(alloc, reported)?;
     first_without_position(&mut walk, reported, &answers)
 }
 

@@ -1,7 +1,7 @@
 ghost use Rattle.std.specs.Prelude.{◌≡◌, ◌≤◌, ◌<◌, ◌+◌, ◌*◌, ◌^◌, ◌++◌, length, IfOk, IfSome, OnOk, IsTrue, List};
 ghost use Rattle.std.specs.Option.{option_to_list};
 ghost use Rattle.events.specs.declared.record.Rec.{Rec as Record};
-ghost use Rattle.ruled_out.specs.Positions.{count_below, gap_of, is_below};
+ghost use Rattle.ruled_out.specs.Positions.{count_below, taking_position, is_below};
 ghost use Rattle.ruled_out.specs.Reported.{condition_met, known_pairs, pair_shown};
 ghost use Rattle.ruled_out.specs.aids.KnownPairs.{AreKnown, IsGapAbove, IsLastKnown, IsNextKnown, IsVersionOf};
 ghost use Rattle.ruled_out.specs.aids.Places.{Gives, IsPlaceOf, IsRepeated, RoomBehind};
@@ -14,7 +14,7 @@ use version_pair::{NoMemory, Pair};
 
 // The place of a pair among the known ones.
 #[derive(Clone, Copy)]
-struct Place {
+struct PairPlace {
     // The number of known pairs below it.
     below: usize,
     // Whether it is known.
@@ -98,21 +98,21 @@ impl Known {
     }
 
     /// Returns the position of a call that takes the pair.
-    pub fn gap_of(&self, pair: Pair) -> usize
-        ensures { (records : List Record) → AreKnown records self.now.pairs.items → result ≡ gap_of records pair }
+    pub fn taking_position(&self, pair: Pair) -> usize
+        ensures { (records : List Record) → AreKnown records self.now.pairs.items → result ≡ taking_position records pair }
     {
         2 * self.count_below(pair) + 1
     }
 
     // The place of the pair among the known ones.
-    fn find(&self, pair: Pair) -> Place
+    fn find(&self, pair: Pair) -> PairPlace
         ensures exact { (records : List Record) → AreKnown records self.now.pairs.items → IsPlaceOf records pair result }
         ensures fits { 2 * result.below + 1 < 2 ^ 64 }
         ensures fits_known { IsTrue result.known → 2 * result.below + 3 < 2 ^ 64 }
     {
         let below = self.count_below(pair);
         let known = below < self.pairs.len() && self.pairs[below] == pair;
-        Place { below, known }
+        PairPlace { below, known }
     }
 
     /// Returns the position of a document that has the pair, if the pair is known.

@@ -1,9 +1,9 @@
-use crate::answers::{Answer, answers_of};
+use crate::answers::{AnsweredRec, answers_of};
 use crate::cause::{Cause, cause_of};
 use crate::reported::reported_records;
 use crate::standing::{Stage, Standing, stage_of};
 use crate::unhelpful::{Unhelpful, Wanted, unhelpful_for};
-use crate::walk::Walk;
+use crate::walk::EventWalk;
 use doc_register::{Conflicts, Op};
 use events::Rec;
 use std::alloc::Global;
@@ -17,7 +17,7 @@ use version_pair::{NoMemory, Pair};
 #[derive(Drop)]
 pub struct Standings {
     reported: Vec<Rec>,
-    walk: Walk,
+    walk: EventWalk,
     standings: Vec<Standing>,
     cause: Option<Cause>,
 }
@@ -37,7 +37,7 @@ impl Standings {
     pub fn of(alloc: Global, records: &[Rec], conflicts: Conflicts) -> Result<Standings, NoMemory> {
         let reported = reported_records(alloc, records, conflicts)?;
         let answers = answers_of(alloc, &reported)?;
-        let walk = Walk::new(alloc, &reported)?;
+        let walk = EventWalk::new(alloc, &reported)?;
         let mut standings = Standings {
             reported,
             walk,
@@ -49,13 +49,13 @@ impl Standings {
     }
 
     // Walks over the answered calls, up to the one that has no position.
-    fn walk_over(&mut self, alloc: Global, answers: &[Answer]) -> Result<(), NoMemory> {
+    fn walk_over(&mut self, alloc: Global, answers: &[AnsweredRec]) -> Result<(), NoMemory> {
         let mut raises = Vec::new(alloc);
         for answer in answers {
-            self.walk.pass_until(&self.reported, answer.0)?;
+            self.walk.pass_until(&self.reported, answer.reply_at)?;
             let before = self.walk.reached();
-            let bound = bound_of(&raises, self.walk.floor(answer.1));
-            if !self.stand(answer.1, bound)? {
+            let bound = bound_of(&raises, self.walk.floor(answer.rec));
+            if !self.stand(answer.rec, bound)? {
                 return Ok(());
             }
             if before < self.walk.reached() {

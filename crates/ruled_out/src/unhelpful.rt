@@ -57,7 +57,7 @@ fn not_written(versions: &Versions, write: &Rec, floor: usize, pair: Pair) -> Un
     }
     match write.op.condition() {
         Some(asked) if versions.known.next_above(asked) != Some(pair) => Unhelpful::OtherVersion,
-        _ if floor > versions.known.gap_of(pair) => Unhelpful::Passed,
+        _ if floor > versions.known.taking_position(pair) => Unhelpful::Passed,
         _ => Unhelpful::Vain,
     }
 }
@@ -76,7 +76,8 @@ fn place_of(versions: &Versions, write: &Rec, cause: Cause) -> Option<Option<Pai
 // Whether a change at the position is what is needed.
 fn is_wanted_at(versions: &Versions, wanted: Wanted, position: usize) -> bool {
     match wanted.cause {
-        Cause::WasThere(pair) | Cause::WasAbsent(pair) => position == versions.known.gap_of(pair),
+        Cause::WasThere(pair) | Cause::WasAbsent(pair) => position
+            == versions.known.taking_position(pair),
         _ => wanted.floor <= position,
     }
 }

@@ -4,7 +4,7 @@ use doc_register::Reply;
 
 /// The numbers that gets found with a pair.
 #[derive(Clone, Copy)]
-pub enum Number {
+pub enum FoundNumbers {
     /// No get found the pair.
     Unseen,
     /// Each get that found the pair found this number.
@@ -21,33 +21,33 @@ pub struct Version {
     /// Whether a reply says that the document was deleted with the pair.
     pub gone: bool,
     /// What gets found with the pair.
-    pub number: Number,
+    pub number: FoundNumbers,
 }
 
 /// The version of a pair of which no reply says anything.
 pub const UNREPORTED: Version = Version {
     reported: false,
     gone: false,
-    number: Number::Unseen,
+    number: FoundNumbers::Unseen,
 };
 
-impl Number {
+impl FoundNumbers {
     ghost use Rattle.ruled_out.specs.aids.Versions.{allows, number_with};
 
     /// Returns the numbers with one more.
-    pub fn with(self, k: u64) -> Number
+    pub fn with(self, k: u64) -> FoundNumbers
         ensures { result ≡ number_with self k }
     {
         match self {
-            Number::Unseen => Number::One(k),
-            Number::One(known) => {
+            FoundNumbers::Unseen => FoundNumbers::One(k),
+            FoundNumbers::One(known) => {
                 if known == k {
-                    Number::One(known)
+                    FoundNumbers::One(known)
                 } else {
-                    Number::Several
+                    FoundNumbers::Several
                 }
             }
-            Number::Several => Number::Several,
+            FoundNumbers::Several => FoundNumbers::Several,
         }
     }
 
@@ -56,9 +56,9 @@ impl Number {
         ensures { result ≡ allows self k }
     {
         match self {
-            Number::Unseen => true,
-            Number::One(known) => known == k,
-            Number::Several => false,
+            FoundNumbers::Unseen => true,
+            FoundNumbers::One(known) => known == k,
+            FoundNumbers::Several => false,
         }
     }
 }

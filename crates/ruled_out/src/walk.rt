@@ -22,7 +22,7 @@ use version_pair::{NoMemory, Pair};
 /// The walk over the events of a document: the calls that were made so far, and the positions at which the
 /// document may be.
 #[derive(Drop)]
-pub struct Walk {
+pub struct EventWalk {
     versions: Versions,
     absent: Possible,
     present: Possible,
@@ -62,11 +62,11 @@ fn reported_present(alloc: Global, versions: &Versions) -> Result<Possible, NoMe
     Ok(there)
 }
 
-impl Walk {
+impl EventWalk {
     ghost use Rattle.ruled_out.specs.aids.States.{AreEarlier, IsAt, KeepsFloors, Offers, PassesCall, PassesCalls};
 
     /// Returns the walk before the first event.
-    pub fn new(alloc: Global, records: &[Rec]) -> Result<Walk, NoMemory>
+    pub fn new(alloc: Global, records: &[Rec]) -> Result<EventWalk, NoMemory>
         ensures known { IfOk result (IsAt records.now) }
         ensures start { IfOk result (λ walk. (length walk.floors.items ≡ 0) × (walk.reached ≡ 0)) }
     {
@@ -74,7 +74,7 @@ impl Walk {
         let absent = reported_absent(alloc, &versions)?;
         let present = reported_present(alloc, &versions)?;
         let writers = Writers::new(alloc, &versions)?;
-        Ok(Walk {
+        Ok(EventWalk {
             versions,
             absent,
             present,

@@ -4,12 +4,12 @@ ghost use Rattle.std.specs.Ordering.{nat_cmp};
 ghost use Rattle.doc_register.specs.Register.{condition_of, value_of};
 ghost use Rattle.events.specs.declared.record.Rec.{Rec as Record};
 ghost use Rattle.ruled_out.specs.Reported.{IsFoundWith, IsKnown};
-ghost use Rattle.ruled_out.specs.Positions.{gap_of};
+ghost use Rattle.ruled_out.specs.Positions.{taking_position};
 ghost use Rattle.ruled_out.specs.aids.VersionsOf.{AreOf};
 ghost use Rattle.ruled_out.specs.aids.Sets.{IsFrom};
 ghost use Rattle.ruled_out.specs.aids.Wild.{IsWritten};
 
-use crate::version::Number;
+use crate::version::FoundNumbers;
 use crate::versions::Versions;
 use std::alloc::Global;
 use std::collections::BTreeMap;
@@ -59,9 +59,9 @@ fn set_floor(floors: &mut BTreeMap<u64, usize>, k: u64, floor: usize) -> Result<
 // condition.
 fn may_take(versions: &Versions, pair: Pair, k: u64, floor: usize) -> bool
     ensures { (records : List Record) → AreOf records versions.now → IsKnown records pair
-        → (IsTrue result ↔ ((floor ≤ gap_of records pair) × ((n : ℕ) → IsFoundWith records pair n → n ≡ k))) }
+        → (IsTrue result ↔ ((floor ≤ taking_position records pair) × ((n : ℕ) → IsFoundWith records pair n → n ≡ k))) }
 {
-    floor <= versions.known.gap_of(pair) && versions.reported_of(pair).number.allows(k)
+    floor <= versions.known.taking_position(pair) && versions.reported_of(pair).number.allows(k)
 }
 
 impl Writers {
@@ -134,14 +134,14 @@ impl Writers {
 
     // Whether a write without a condition may have taken a pair of the position, with which these numbers
     // were found.
-    fn may_give(&self, number: Number, gap: usize) -> bool
+    fn may_give(&self, number: FoundNumbers, gap: usize) -> bool
         ensures { (records : List Record) (floors : List ℕ) → AreWriters records floors self.now
             → (IsTrue result ↔ ((k : ℕ) × (allows number k ≡ true) × IsGiven records floors k gap)) }
     {
         match number {
-            Number::Unseen => is_from(self.any, gap),
-            Number::One(k) => is_from(self.by_number.get(&k).copied(), gap),
-            Number::Several => false,
+            FoundNumbers::Unseen => is_from(self.any, gap),
+            FoundNumbers::One(k) => is_from(self.by_number.get(&k).copied(), gap),
+            FoundNumbers::Several => false,
         }
     }
 
@@ -169,7 +169,7 @@ impl Writers {
         }
         self.may_give(
             versions.reported_of(pair).number,
-            versions.known.gap_of(pair),
+            versions.known.taking_position(pair),
         )
     }
 }

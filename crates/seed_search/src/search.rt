@@ -10,7 +10,7 @@ use disturbances::{Disturbance, DisturbedGroup};
 use doc_register::Conflicts;
 use history::write;
 use recorded_runs::{Manner, Playing, RunSetting, Seeds, run_history};
-use report::{RulingOut, history_answer};
+use report::{CheckOptions, RulingOut, history_answer};
 use std::alloc::Global;
 use std::io::Write;
 use std::sync::Wait;
@@ -40,7 +40,12 @@ fn judged_run<T: Threads + Wait + Sync>(
     };
     let history = run_history(rt, alloc, setting, &manner)?;
     let text = write(alloc, &history)?;
-    let (answer, _) = history_answer(rt, alloc, history, 1, Conflicts::Plain, RulingOut::On)?;
+    let options = CheckOptions {
+        workers: 1,
+        conflicts: Conflicts::Plain,
+        ruling_out: RulingOut::On,
+    };
+    let (answer, _) = history_answer(rt, alloc, history, options)?;
     Ok(FoundRun {
         seed: setting.seed,
         text,

@@ -1,32 +1,27 @@
-use crate::advice_words::{KEEP, look_words, rule_out_words};
+use crate::anomaly_words::{KEEP, words_of};
 use crate::diagnosis::Diagnosis;
-use crate::event_lines::EventLines;
-use crate::parts::Part;
+use crate::draft::Draft;
 use crate::signs::add_signs;
 use crate::subject::Unexplained;
 use crate::subjects::Subject;
-use std::alloc::Global;
 use version_pair::NoMemory;
 
 /// Adds what is to be ruled out first, what in the history speaks for or against it, and what to do then.
 /// Adds nothing if no anomaly is named.
 pub fn add_advice(
-    alloc: Global,
+    draft: &mut Draft<'_>,
     unexplained: &Unexplained<'_>,
     subjects: &[Subject<'_>],
     found: Option<Diagnosis>,
-    lines: &EventLines,
-    parts: &mut Vec<Part>,
 ) -> Result<(), NoMemory> {
     let Some(found) = found else {
         return Ok(());
     };
-    parts.push(Part::Heading("First rule out"))?;
-    let rule_out = String::from_str(alloc, rule_out_words(found.anomaly))?;
-    parts.push(Part::Paragraph(rule_out))?;
-    add_signs(alloc, unexplained, subjects, found, lines, parts)?;
-    parts.push(Part::Heading("Then"))?;
-    parts.push(Part::Paragraph(String::from_str(alloc, look_words(found.anomaly))?))?;
-    parts.push(Part::Paragraph(String::from_str(alloc, KEEP)?))?;
-    Ok(())
+    let words = words_of(found.anomaly);
+    draft.heading("First rule out")?;
+    draft.paragraph(words.rule_out, &[])?;
+    add_signs(draft, unexplained, subjects, found)?;
+    draft.heading("Then")?;
+    draft.paragraph(words.look, &[])?;
+    draft.paragraph(KEEP, &[])
 }

@@ -1,119 +1,108 @@
+use crate::calls::end_of;
 use doc_register::{Op, Reply};
 use events::Rec;
 use places::DocWitness;
-use version_pair::Pair;
 
-/// How much of what can go wrong a history is able to show, counted in its calls.
-#[derive(Clone, Copy)]
-pub struct Coverage {
-    pub calls: usize,
-    /// The calls that were open at the same time as an answered call of their document.
-    pub overlapping: usize,
-    /// The gets that were answered.
-    pub gets: usize,
-    /// The writes under a condition, creates among them, that were performed.
-    pub performed: usize,
-    /// Those that were answered with a conflict.
-    pub conflicts: usize,
-    /// The writes without a reply.
-    pub unanswered: usize,
-    /// The least and the greatest version that a reply shows.
-    pub least: Option<Pair>,
-    pub greatest: Option<Pair>,
+/// What a call is able to show of what can go wrong.
+#[derive(Clone, Copy, PartialEq, Eq)]
+pub enum CallKind {
+    /// A get that was answered.
+    Get,
+    /// A write under a condition, or a create, that was performed.
+    Performed,
+    /// One that was answered with a conflict.
+    Conflict,
+    /// A write without a reply.
+    Unanswered,
+    /// Any other call: it shows nothing.
+    Other,
 }
 
-// Whether the write is performed only if the document is what it asks for.
-fn is_conditional(op: Op) -> bool {
-    matches!(op, Op::Create { .. }) || op.condition().is_some()
+// Returns the kind of the call.
+fn kind_of(record: &Rec) -> CallKind {
+    let op = record.op;
+    let Some(heard) = record.heard else {
+        return if op == Op::Get {
+            CallKind::Other
+        } else {
+            CallKind::Unanswered
+        };
+    };
+    if op == Op::Get {
+        CallKind::Get
+    } else if !matches!(op, Op::Create { .. }) && op.condition().is_none() {
+        CallKind::Other
+    } else if heard.1 == Reply::Conflict {
+        CallKind::Conflict
+    } else {
+        CallKind::Performed
+    }
 }
 
-// Returns where the call ended. One that was never answered counts as ended at once: it may take effect at any
-// time, so all later calls would overlap it.
-fn end_of(record: &Rec) -> usize {
-    record.heard.map_or(record.call_at, |heard| heard.0)
-}
-
-// Returns how many of a document's calls, in the order in which they were made, were open at the same time as
-// an answered one of them.
-fn overlapping_of(records: &[Rec]) -> usize {
+/// Returns how many calls of the documents are of this kind.
+pub fn count_of(witnesses: &[DocWitness], kind: CallKind) -> usize {
     let mut count = 0usize;
-    let mut open_until = 0usize;
-    for (i, record) in records.iter().enumerate() {
-        let end = end_of(record);
-        let next = records
-            .get(i.saturating_add(1))
-            .map_or(usize::MAX, |next| next.call_at);
-        if record.call_at < open_until || next < end {
-            count = count.saturating_add(1);
-        }
-        open_until = open_until.max(end);
+    for witness in witnesses {
+        let more = witness
+            .records()
+            .iter()
+            .filter(|record| kind_of(record) == kind);
+        // A history has too few calls for the sum to reach the greatest number.
+        count = count.saturating_add(more.count());
     }
     count
 }
 
-impl Coverage {
-    /// Returns that of the calls of these documents.
-    pub fn of(witnesses: &[DocWitness]) -> Coverage {
-        let mut coverage = Coverage {
-            calls: 0,
-            overlapping: 0,
-            gets: 0,
-            performed: 0,
-            conflicts: 0,
-            unanswered: 0,
-            least: None,
-            greatest: None,
-        };
-        for witness in witnesses {
-            let overlapping = overlapping_of(witness.records());
-            coverage.overlapping = coverage.overlapping.saturating_add(overlapping);
-            for record in witness.records() {
-                coverage.count(record);
+/// Returns how many calls of the documents were open at the same time as an answered call of their document.
+pub fn overlapping_of(witnesses: &[DocWitness]) -> usize {
+    let mut count = 0usize;
+    for witness in witnesses {
+        let records = witness.records();
+        let mut open_until = 0usize;
+        for (i, record) in records.iter().enumerate() {
+            // A call that was never answered counts as ended at once: it may take effect at any time, so all
+            // later calls would overlap it.
+            let end = end_of(record);
+            let is_before_next = i + 1 < records.len() && records[i + 1].call_at < end;
+            if record.call_at < open_until || is_before_next {
+                count = count.saturating_add(1);
+            }
+            open_until = open_until.max(end);
+        }
+    }
+    count
+}
+
+/// The least and the greatest primary term that replies show.
+#[derive(Clone, Copy)]
+pub struct Terms {
+    pub least: u64,
+    pub greatest: u64,
+}
+
+// Returns the terms with one more.
+fn with_term(terms: Option<Terms>, term: u64) -> Terms {
+    match terms {
+        Some(terms) => Terms {
+            least: terms.least.min(term),
+            greatest: terms.greatest.max(term),
+        },
+        None => Terms {
+            least: term,
+            greatest: term,
+        },
+    }
+}
+
+/// Returns the terms of the documents' calls; `None` if no reply shows one.
+pub fn terms_of(witnesses: &[DocWitness]) -> Option<Terms> {
+    let mut terms = None;
+    for witness in witnesses {
+        for record in witness.records() {
+            if let Some(pair) = record.heard.and_then(|heard| heard.1.pair()) {
+                terms = Some(with_term(terms, pair.term()));
             }
         }
-        coverage
     }
-
-    // Counts a call.
-    fn count(&mut self, record: &Rec) {
-        self.calls = self.calls.saturating_add(1);
-        let Some(heard) = record.heard else {
-            self.count_unanswered(record.op);
-            return;
-        };
-        self.count_answered(record.op, heard.1);
-        self.note(heard.1.pair());
-    }
-
-    // Counts a call that was not answered, if it is a write.
-    fn count_unanswered(&mut self, op: Op) {
-        if op != Op::Get {
-            self.unanswered = self.unanswered.saturating_add(1);
-        }
-    }
-
-    // Counts a call that was answered.
-    fn count_answered(&mut self, op: Op, reply: Reply) {
-        match (op, reply) {
-            (Op::Get, _) => self.gets = self.gets.saturating_add(1),
-            (_, Reply::Conflict) if is_conditional(op) => {
-                self.conflicts = self.conflicts.saturating_add(1)
-            }
-            _ if is_conditional(op) => self.performed = self.performed.saturating_add(1),
-            _ => {}
-        }
-    }
-
-    // Notes a version that a reply shows.
-    fn note(&mut self, shown: Option<Pair>) {
-        let Some(pair) = shown else {
-            return;
-        };
-        if self.least.is_none_or(|least| pair.is_below(least)) {
-            self.least = shown;
-        }
-        if self.greatest.is_none_or(|greatest| greatest.is_below(pair)) {
-            self.greatest = shown;
-        }
-    }
+    terms
 }

@@ -1,6 +1,9 @@
-use crate::calls::id_words;
-use crate::coverage::Coverage;
-use crate::parts::Part;
+use crate::block::Block;
+use crate::coverage::{CallKind, Terms, count_of, overlapping_of, terms_of};
+use crate::draft::Draft;
+use crate::subject::Explained;
+use crate::word::Word::{Count, Id, Number};
+use crate::word::add_sentence;
 use places::DocWitness;
 use std::alloc::Global;
 use version_pair::{DocId, NoMemory};
@@ -15,7 +18,7 @@ struct Busy<'w> {
     calls: usize,
 }
 
-// Returns the documents with the most calls, in words that follow each other.
+// Returns the documents with the most calls, in words.
 fn busiest_words(alloc: Global, witnesses: &[DocWitness]) -> Result<String, NoMemory> {
     let mut all = Vec::new(alloc);
     for witness in witnesses {
@@ -24,59 +27,80 @@ fn busiest_words(alloc: Global, witnesses: &[DocWitness]) -> Result<String, NoMe
             calls: witness.records().len(),
         })?;
     }
-    all.sort_by_key(|busy| usize::MAX.saturating_sub(busy.calls))?;
-    let mut words = String::new(alloc);
-    for busy in all.iter().take(MOST_NAMED) {
-        let separator = if words.is_empty() { "" } else { ", " };
-        let id = id_words(alloc, busy.id)?;
-        let calls = busy.calls;
-        let next = format!(in alloc; "{separator}{id} with {calls}")?;
-        words.push_str(next.as_str())?;
+    all.sort_by_key(|busy| usize::MAX - busy.calls)?;
+    let mut words = String::from_str(alloc, "documents with the most calls:")?;
+    for (i, busy) in all.iter().take(MOST_NAMED).enumerate() {
+        if i > 0 {
+            words.push_str(",")?;
+        }
+        add_sentence(&mut words, " {} with {}", &[Id(busy.id), Count(busy.calls)])?;
     }
     Ok(words)
 }
 
 // Returns the primary terms that replies show, in words.
-fn terms_words(alloc: Global, coverage: &Coverage) -> Result<String, NoMemory> {
-    match (coverage.least, coverage.greatest) {
-        (Some(least), Some(greatest)) if least.term() < greatest.term() => {
-            let first = least.term();
-            let last = greatest.term();
-            format!(in alloc; "{first} to {last}")
-        }
-        (Some(least), _) => {
-            let only = least.term();
-            format!(in alloc; "{only}")
-        }
-        (None, _) => String::from_str(alloc, "none"),
+fn terms_words(draft: &Draft<'_>, terms: Option<Terms>) -> Result<String, NoMemory> {
+    match terms {
+        Some(terms) if terms.least < terms.greatest => draft.sentence(
+            "primary terms seen: {} to {}",
+            &[Number(terms.least), Number(terms.greatest)],
+        ),
+        Some(terms) => draft.sentence("primary terms seen: {}", &[Number(terms.least)]),
+        None => draft.sentence("primary terms seen: none", &[]),
+    }
+}
+
+// What the calls are able to show.
+#[derive(Clone, Copy)]
+struct Coverage {
+    overlapping: usize,
+    gets: usize,
+    performed: usize,
+    conflicts: usize,
+    terms: Option<Terms>,
+}
+
+// Returns what the documents' calls are able to show.
+fn coverage_of(witnesses: &[DocWitness]) -> Coverage {
+    Coverage {
+        overlapping: overlapping_of(witnesses),
+        gets: count_of(witnesses, CallKind::Get),
+        performed: count_of(witnesses, CallKind::Performed),
+        conflicts: count_of(witnesses, CallKind::Conflict),
+        terms: terms_of(witnesses),
     }
 }
 
 // Returns what the calls cover, in words.
 fn items_of(
-    alloc: Global,
+    draft: &Draft<'_>,
+    explained: &Explained<'_>,
     coverage: &Coverage,
-    witnesses: &[DocWitness],
 ) -> Result<Vec<String>, NoMemory> {
-    let calls = coverage.calls;
-    let overlapping = coverage.overlapping;
-    let gets = coverage.gets;
-    let performed = coverage.performed;
-    let conflicts = coverage.conflicts;
-    let unanswered = coverage.unanswered;
-    let terms = terms_words(alloc, coverage)?;
-    let busiest = busiest_words(alloc, witnesses)?;
-    let mut items = Vec::new(alloc);
-    items.push(format!(in alloc;
-        "calls that overlapped another call of their document: {overlapping} of {calls}"
-    )?)?;
-    items.push(format!(in alloc; "gets that were answered: {gets}")?)?;
-    items.push(format!(in alloc;
-        "writes under a condition, creates among them: {performed} performed, {conflicts} answered with a conflict"
-    )?)?;
-    items.push(format!(in alloc; "writes without a reply: {unanswered}")?)?;
-    items.push(format!(in alloc; "primary terms seen: {terms}")?)?;
-    items.push(format!(in alloc; "documents with the most calls: {busiest}")?)?;
+    let witnesses = explained.witnesses;
+    let mut items = Vec::new(draft.alloc);
+    draft.item(
+        &mut items,
+        "calls that overlapped another call of their document: {} of {}",
+        &[Count(coverage.overlapping), Count(explained.calls)],
+    )?;
+    draft.item(
+        &mut items,
+        "gets that were answered: {}",
+        &[Count(coverage.gets)],
+    )?;
+    draft.item(
+        &mut items,
+        "conditional writes, creates included: {} performed, {} answered with a conflict",
+        &[Count(coverage.performed), Count(coverage.conflicts)],
+    )?;
+    draft.item(
+        &mut items,
+        "writes without a reply: {}",
+        &[Count(count_of(witnesses, CallKind::Unanswered))],
+    )?;
+    items.push(terms_words(draft, coverage.terms)?)?;
+    items.push(busiest_words(draft.alloc, witnesses)?)?;
     Ok(items)
 }
 
@@ -95,34 +119,27 @@ fn warning_words(coverage: &Coverage) -> Option<&'static str> {
     }
 }
 
-// Returns whether all versions are of one primary term.
-fn is_of_one_term(coverage: &Coverage) -> bool {
-    let first = coverage.least.map(|least| least.term());
-    first.is_some() && first == coverage.greatest.map(|greatest| greatest.term())
-}
-
 /// Adds what a history that an order explains is able to show, with a warning if that is little. Adds nothing
 /// if there are no calls.
-pub fn add_coverage(
-    alloc: Global,
-    witnesses: &[DocWitness],
-    parts: &mut Vec<Part>,
-) -> Result<(), NoMemory> {
-    let coverage = Coverage::of(witnesses);
-    if coverage.calls == 0 {
+pub fn add_coverage(draft: &mut Draft<'_>, explained: &Explained<'_>) -> Result<(), NoMemory> {
+    if explained.calls == 0 {
         return Ok(());
     }
-    parts.push(Part::Heading("What this recording is able to show"))?;
-    parts.push(Part::Items(items_of(alloc, &coverage, witnesses)?))?;
+    let coverage = coverage_of(explained.witnesses);
+    draft.heading("What this recording is able to show")?;
+    let items = items_of(draft, explained, &coverage)?;
+    draft.add(Block::Items(items))?;
     if let Some(warning) = warning_words(&coverage) {
-        parts.push(Part::Paragraph(String::from_str(alloc, warning)?))?;
+        draft.paragraph(warning, &[])?;
     }
-    if is_of_one_term(&coverage) {
-        let words = String::from_str(
-            alloc,
-            "All versions are of one primary term, so no change of the primary left a trace in it.",
+    if coverage
+        .terms
+        .is_some_and(|terms| terms.least == terms.greatest)
+    {
+        draft.paragraph(
+            "All versions are of one primary term, so no change of the primary left a trace in this recording.",
+            &[],
         )?;
-        parts.push(Part::Paragraph(words))?;
     }
     Ok(())
 }

@@ -1,100 +1,131 @@
-use crate::calls::id_words;
+use crate::block::{Block, Story};
 use crate::coverage_words::add_coverage;
+use crate::draft::Draft;
 use crate::event_lines::EventLines;
-use crate::page_head::made_with;
-use crate::parts::{Part, Story, add_items};
-use crate::refused::{cause_words, line_shown};
+use crate::head::HistoryCounts;
+use crate::refused::{add_refusal, line_shown};
 use crate::subject::Explained;
-use crate::words::{NOTATION, heard_words, op_words, pair_words};
+use crate::timeline::add_explained_timeline;
+use crate::view::View;
+use crate::word::Word::{Asked, Count, Heard, Id, Number, Version};
+use crate::word::{NOTATION, sentence_of};
 use api_lines::RefusedLine;
 use events::Rec;
-use places::DocWitness;
+use places::{DocWitness, Place};
 use std::alloc::Global;
-use version_pair::{DocId, NoMemory, Pair};
+use version_pair::NoMemory;
 
 /// The greatest number of calls that are shown one by one.
 pub const MOST_DESCRIBED: usize = 40;
 
-// Returns, in words, a call that took effect though no reply says so.
-fn completed_words(
-    alloc: Global,
-    id: &DocId,
-    record: Rec,
-    pair: Pair,
-    lines: &EventLines,
-) -> Result<String, NoMemory> {
-    let line = lines.line(record.call_at);
-    let no = record.no;
-    let id = id_words(alloc, id)?;
-    let asked = op_words(alloc, record.op)?;
-    let heard = heard_words(alloc, record.heard)?;
-    let pair = pair_words(alloc, pair)?;
-    format!(in alloc; "line {line}, call {no} of {id}: {asked} -> {heard}, took effect as {pair}")
+/// Returns the record of a place; there always is one, since the places of a witness are valid.
+pub fn record_at(witness: &DocWitness, place: &Place) -> Option<Rec> {
+    witness.records().get(place.rec).copied()
 }
 
-// Returns the calls of unknown outcome (indeterminate) that took effect in the order found: their number, and
-// the first of them in words.
-fn completed_calls(
-    alloc: Global,
-    witnesses: &[DocWitness],
-    lines: &EventLines,
-) -> Result<(usize, Vec<String>), NoMemory> {
+// Returns how many calls of unknown outcome (indeterminate) took effect in the order found.
+fn completed_count(witnesses: &[DocWitness]) -> usize {
     let mut count = 0usize;
-    let mut reported = Vec::new(alloc);
-    for witness in witnesses.iter() {
-        for place in witness.places() {
-            if let (Some(pair), Some(record)) = (place.pair, witness.records().get(place.rec)) {
-                count = count.saturating_add(1);
-                if reported.len() < MOST_DESCRIBED {
-                    reported.push(completed_words(alloc, witness.id(), *record, pair, lines)?)?;
-                }
-            }
+    for witness in witnesses {
+        let completed = witness.places().iter().filter(|place| place.pair.is_some());
+        // A history has too few calls for the sum to reach the greatest number.
+        count = count.saturating_add(completed.count());
+    }
+    count
+}
+
+// Adds the calls of a document that took effect though no reply says so, as far as there is room.
+fn add_completed(
+    draft: &Draft<'_>,
+    witness: &DocWitness,
+    items: &mut Vec<String>,
+) -> Result<(), NoMemory> {
+    for place in witness.places() {
+        if items.len() >= MOST_DESCRIBED {
+            return Ok(());
+        }
+        if let (Some(pair), Some(record)) = (place.pair, record_at(witness, place)) {
+            draft.item(
+                items,
+                "line {}, call {} of {}: {} -> {}, took effect as {}",
+                &[
+                    draft.called(&record),
+                    Number(record.no),
+                    Id(witness.id()),
+                    Asked(record.op),
+                    Heard(record.heard),
+                    Version(pair),
+                ],
+            )?;
         }
     }
-    Ok((count, reported))
+    Ok(())
 }
 
-/// Returns the explanation of a history that an order explains. Nothing is promised of its sentences.
+// Adds the calls of unknown outcome that took effect in the order found: the first of them.
+fn add_effects(
+    draft: &mut Draft<'_>,
+    witnesses: &[DocWitness],
+    count: usize,
+) -> Result<(), NoMemory> {
+    if count == 0 {
+        return Ok(());
+    }
+    let mut items = Vec::new(draft.alloc);
+    for witness in witnesses {
+        add_completed(draft, witness, &mut items)?;
+    }
+    draft.heading("Calls of unknown outcome that took effect")?;
+    draft.paragraph(NOTATION, &[])?;
+    draft.items(items, count, "And {} more.")
+}
+
+/// Returns the explanation of a history that an order explains, with a timeline if one is asked for. Nothing is
+/// promised of its sentences.
 pub fn explained_story(
     alloc: Global,
     explained: &Explained<'_>,
     lines: &EventLines,
+    view: Option<&View<'_>>,
 ) -> Result<Story, NoMemory> {
-    let (docs, calls, left_out) = (explained.docs, explained.calls, explained.left_out);
-    let (count, reported) = completed_calls(alloc, explained.witnesses, lines)?;
-    let mut parts = Vec::new(alloc);
-    parts.push(Part::Paragraph(format!(in alloc;
-        "Documents: {docs}. Calls: {calls}. Calls of unknown outcome that took effect in the order that was found: {count}. Calls that stand in no place of it, so that they changed nothing: {left_out}."
-    )?))?;
-    if count > 0 {
-        parts.push(Part::Heading("Calls of unknown outcome that took effect"))?;
-        parts.push(Part::Paragraph(String::from_str(alloc, NOTATION)?))?;
-        add_items(alloc, reported, count, &mut parts)?;
-    }
-    add_coverage(alloc, explained.witnesses, &mut parts)?;
-    let reading = explained
-        .witnesses
-        .first()
-        .map(|witness| witness.conflicts());
-    Ok(Story {
-        title: String::from_str(alloc, "One order of the calls explains every reply.")?,
-        made: made_with(reading),
-        parts,
-    })
+    let witnesses = explained.witnesses;
+    let count = completed_count(witnesses);
+    let mut draft = Draft::new(alloc, lines);
+    draft.paragraph(
+        "Documents: {}. Calls: {}. Calls of unknown outcome that took effect in the order that was found: {}. Calls that have no place in it and so changed nothing: {}.",
+        &[
+            Count(explained.docs),
+            Count(explained.calls),
+            Count(count),
+            Count(explained.left_out),
+        ],
+    )?;
+    add_explained_timeline(&mut draft, witnesses, view)?;
+    add_effects(&mut draft, witnesses, count)?;
+    add_coverage(&mut draft, explained)?;
+    let reading = witnesses.first().map(|witness| witness.conflicts());
+    let title = draft.sentence("One order of the calls explains every reply.", &[])?;
+    let counts = HistoryCounts {
+        events: lines.events(),
+        calls: explained.calls,
+        documents: explained.docs,
+    };
+    Ok(draft.finish(title, Some(counts), reading))
 }
 
 /// Returns the explanation of a text that was refused. Nothing is promised of its sentences.
 pub fn refused_story(alloc: Global, refused: &RefusedLine) -> Result<Story, NoMemory> {
-    let line = refused.fault.line;
+    let line = Number(refused.fault.line);
+    let title = sentence_of(
+        alloc,
+        "Line {} of the text is refused, so nothing was judged.",
+        &[line],
+    )?;
+    let lines = EventLines::new(alloc);
+    let mut draft = Draft::new(alloc, &lines);
+    add_refusal(&mut draft, refused)?;
+    draft.heading("How the line begins")?;
     let shown = line_shown(alloc, &refused.line)?;
-    let cause = String::from_str(alloc, cause_words(refused.fault.cause))?;
-    let mut parts = Vec::new(alloc);
-    parts.push(Part::Paragraph(cause))?;
-    parts.push(Part::Heading("How the line begins"))?;
-    parts.push(Part::Items(vec![in alloc; shown]?))?;
-    Ok(Story {
-        title: format!(in alloc; "Line {line} of the text is refused, so nothing was judged.")?,
-        made: made_with(None),
-        parts,
-    })
+    draft.add(Block::Items(vec![in alloc; shown]?))?;
+    Ok(draft.finish(title, None, None))
 }

@@ -1,143 +1,157 @@
-use crate::calls::{Call, call_of, id_words};
-use crate::event_lines::EventLines;
-use crate::words::{op_words, pair_words, unreported_kind};
+use crate::calls::{Call, EvidenceCalls, call_of};
+use crate::draft::Draft;
+use crate::subject::Unexplained;
+use crate::word::Word::{Asked, Id, Number, Version};
+use crate::word::unreported_kind;
 use doc_register::Conflicts;
-use events::History;
+use events::Rec;
 use evidence::Refuted;
-use std::alloc::Global;
 use version_pair::{NoMemory, Pair};
 
 // Explains two writes with one version.
-fn pair_twice(
-    alloc: Global,
-    lines: &EventLines,
-    first: &Call<'_>,
-    second: &Call<'_>,
+fn pair_twice<'h>(
+    draft: &Draft<'_>,
+    first: &Call<'h>,
+    second: &Call<'h>,
     taken: Pair,
 ) -> Result<String, NoMemory> {
-    let pair = pair_words(alloc, taken)?;
-    let shard = first.shard;
-    let one = first.record.no;
-    let two = second.record.no;
-    let line = lines.reply(&first.record);
-    let other = lines.reply(&second.record);
-    let id = id_words(alloc, first.id)?;
-    let other_id = id_words(alloc, second.id)?;
-    format!(in alloc;
-        "Call {one}, a write of {id}, was answered with the version {pair} (line {line}), and so was call {two}, a write of {other_id} (line {other}). Both are on shard {shard}, and a shard gives each pair of _primary_term and _seq_no to one write only. So no order can have both replies."
+    draft.sentence(
+        "Call {}, a write of {}, was answered with the version {} (line {}), and so was call {}, a write of {} (line {}). Both are on shard {}, and a shard gives each pair of _primary_term and _seq_no to one write only. So no order can have both replies.",
+        &[
+            Number(first.record.no),
+            Id(first.id),
+            Version(taken),
+            draft.replied(&first.record),
+            Number(second.record.no),
+            Id(second.id),
+            draft.replied(&second.record),
+            Number(first.shard as u64),
+        ],
     )
 }
 
 // Explains a get of what nobody wrote.
 fn no_writer(
-    alloc: Global,
-    lines: &EventLines,
+    draft: &Draft<'_>,
     get: &Call<'_>,
     (pair, k): (Pair, u64),
     conflicts: Conflicts,
 ) -> Result<String, NoMemory> {
-    let pair = pair_words(alloc, pair)?;
-    let no = get.record.no;
-    let line = lines.reply(&get.record);
-    let id = id_words(alloc, get.id)?;
-    let hidden = unreported_kind(conflicts);
-    format!(in alloc;
-        "Call {no}, a get, was answered with k={k} at the version {pair} (line {line}). No write that was called before that reply can have given {id} the number {k} at {pair}: no reply shows both, and no write with k={k} was {hidden}. So no order explains what the get found."
+    draft.sentence(
+        "Call {}, a get, was answered with k={} at the version {} (line {}). No write that was called before that reply can have given {} the number {} at {}: no reply shows both, and no write with k={} was {}. So no order explains what the get found.",
+        &[
+            Number(get.record.no),
+            Number(k),
+            Version(pair),
+            draft.replied(&get.record),
+            Id(get.id),
+            Number(k),
+            Version(pair),
+            Number(k),
+            unreported_kind(conflicts),
+        ],
     )
 }
 
 // Explains a get of a version that was replaced before.
 fn stale_get(
-    alloc: Global,
-    lines: &EventLines,
+    draft: &Draft<'_>,
     get: &Call<'_>,
     write: &Call<'_>,
     found: Pair,
     taken: Pair,
 ) -> Result<String, NoMemory> {
-    let older = pair_words(alloc, found)?;
-    let newer = pair_words(alloc, taken)?;
-    let asked = op_words(alloc, write.record.op)?;
-    let no = get.record.no;
-    let other = write.record.no;
-    let called = lines.line(get.record.call_at);
-    let line = lines.reply(&get.record);
-    let before = lines.reply(&write.record);
-    format!(in alloc;
-        "Call {other} ({asked}) was answered with the version {newer} (line {before}) before call {no}, a get, was made (line {called}). So each order has the write before the get. But the get was answered with {older} (line {line}), which is older than {newer}, and a document never goes back to an older version. So no order can have both replies."
+    draft.sentence(
+        "Call {} ({}) was answered with the version {} (line {}) before call {}, a get, was made (line {}). So each order has the write before the get. But the get was answered with {} (line {}), which is older than {}, and a document never goes back to an older version. So no order can have both replies.",
+        &[
+            Number(write.record.no),
+            Asked(write.record.op),
+            Version(taken),
+            draft.replied(&write.record),
+            Number(get.record.no),
+            draft.called(&get.record),
+            Version(found),
+            draft.replied(&get.record),
+            Version(taken),
+        ],
     )
 }
 
-// Returns why the first write comes before the second.
-fn first_because(
-    alloc: Global,
-    lines: &EventLines,
-    first: &Call<'_>,
-    second: &Call<'_>,
-) -> Result<String, NoMemory> {
-    let one = first.record.no;
-    let two = second.record.no;
-    let called = lines.line(second.record.call_at);
-    if lines.reply(&first.record).number < called.number {
-        format!(in alloc; "call {one} was answered before call {two} was made (line {called})")
+// Says why the first write comes before the second.
+fn add_first_because(draft: &mut Draft<'_>, first: &Rec, second: &Rec) -> Result<(), NoMemory> {
+    if draft.lines.reply(first).number < draft.lines.line(second.call_at).number {
+        draft.say(
+            "call {} was answered before call {} was made (line {})",
+            &[Number(first.no), Number(second.no), draft.called(second)],
+        )
     } else {
-        format!(in alloc;
-            "the version of call {one} is the older of the two, so it took effect before call {two}"
+        draft.say(
+            "the version of call {} is the older of the two, so it took effect before call {}",
+            &[Number(first.no), Number(second.no)],
         )
     }
 }
 
-// Explains a write whose condition asks for a version that was replaced before.
-fn stale_swap(
-    alloc: Global,
-    lines: &EventLines,
-    first: &Call<'_>,
-    second: &Call<'_>,
-    taken: Pair,
-    asked: Pair,
-) -> Result<String, NoMemory> {
-    let because = first_because(alloc, lines, first, second)?;
-    let newer = pair_words(alloc, taken)?;
-    let older = pair_words(alloc, asked)?;
-    let one = first.record.no;
-    let two = second.record.no;
-    let line = lines.reply(&first.record);
-    let other = lines.reply(&second.record);
-    format!(in alloc;
-        "Call {two} was to be performed only if the document is still at the version {older}, and it was performed (line {other}). But call {one} had given the document the newer version {newer} (line {line}), and it stands first: {because}. So the document was past {older} by then, and no order can have both replies: the condition was not kept, and what call {one} wrote was overwritten unseen."
+// Says what follows from a write whose condition asks for a version that the first one replaced.
+fn add_overwritten(draft: &mut Draft<'_>, first: &Rec, asked: Pair) -> Result<(), NoMemory> {
+    draft.say(
+        ". So the document was past {} by then, and no order can have both replies: the condition was not honoured, and what call {} wrote was overwritten unseen.",
+        &[Version(asked), Number(first.no)],
     )
 }
 
-/// Returns why no order can have what evidence names, in words. Returns `None` if the history doesn't have
-/// its calls, and for `Refuted::RuledOut`.
+// Explains a write whose condition asks for a version that was replaced before.
+fn add_stale_swap(
+    draft: &mut Draft<'_>,
+    first: &Rec,
+    second: &Rec,
+    taken: Pair,
+    asked: Pair,
+) -> Result<(), NoMemory> {
+    draft.say(
+        "Call {} was to be performed only if the document is still at the version {}, and it was performed (line {}). ",
+        &[Number(second.no), Version(asked), draft.replied(second)],
+    )?;
+    draft.say(
+        "But call {} had given the document the newer version {} (line {}), and it comes first: ",
+        &[Number(first.no), Version(taken), draft.replied(first)],
+    )?;
+    add_first_because(draft, first, second)?;
+    add_overwritten(draft, first, asked)
+}
+
+/// Returns why no order can have what the evidence names, in words. Returns `None` if there is none, if the
+/// history doesn't have its calls, and for `Refuted::RuledOut`.
 pub fn evidence_words(
-    alloc: Global,
-    history: &History,
-    lines: &EventLines,
-    evidence: Refuted,
-    conflicts: Conflicts,
+    draft: &mut Draft<'_>,
+    unexplained: &Unexplained<'_>,
 ) -> Result<Option<String>, NoMemory> {
-    let (one, two) = match evidence {
-        Refuted::NoWriter(call) | Refuted::RuledOut(call) => (call, call),
-        Refuted::PairTwice(one, two) | Refuted::StaleGet(one, two) | Refuted::StaleSwap(one, two) =>
-            (one, two),
+    let Some(evidence) = unexplained.evidence else {
+        return Ok(None);
     };
-    let (Some(first), Some(second)) = (call_of(history, one), call_of(history, two)) else {
+    let history = unexplained.history;
+    let calls = EvidenceCalls::of(evidence);
+    let second = call_of(history, calls.second.unwrap_or(calls.first));
+    let (Some(first), Some(second)) = (call_of(history, calls.first), second) else {
         return Ok(None);
     };
     let words = match (evidence, first.record.pair_taken(), first.found()) {
-        (Refuted::PairTwice(..), Some(pair), _) => {
-            pair_twice(alloc, lines, &first, &second, pair)?
-        }
-        (Refuted::NoWriter(_), _, Some(found)) => {
-            no_writer(alloc, lines, &first, found, conflicts)?
-        }
+        (Refuted::PairTwice(..), Some(pair), _) => pair_twice(draft, &first, &second, pair)?,
+        (Refuted::NoWriter(_), _, Some(found)) => no_writer(
+            draft,
+            &first,
+            found,
+            unexplained.conflicts,
+        )?,
         (Refuted::StaleGet(..), _, Some((found, _))) => match second.record.pair_taken() {
-            Some(taken) => stale_get(alloc, lines, &first, &second, found, taken)?,
+            Some(taken) => stale_get(draft, &first, &second, found, taken)?,
             None => return Ok(None),
         },
         (Refuted::StaleSwap(..), Some(taken), _) => match second.record.op.condition() {
-            Some(asked) => stale_swap(alloc, lines, &first, &second, taken, asked)?,
+            Some(asked) => {
+                add_stale_swap(draft, &first.record, &second.record, taken, asked)?;
+                draft.said()
+            }
             None => return Ok(None),
         },
         _ => return Ok(None),

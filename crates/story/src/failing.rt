@@ -1,103 +1,72 @@
 use crate::advice::add_advice;
-use crate::calls::{Call, call_of, id_words};
-use crate::certainty_words::certainty_words;
+use crate::block::Story;
+use crate::calls::{Call, call_of};
+use crate::damage_words::add_damage;
 use crate::describing::MOST_DESCRIBED;
 use crate::diagnosis::diagnosis_of;
+use crate::draft::Draft;
 use crate::event_lines::EventLines;
-use crate::headline::add_headline;
+use crate::head::HistoryCounts;
+use crate::headline::{add_headline, certainty_words};
 use crate::kept::Kept;
 use crate::named::Named;
 use crate::order_before::{OrderBefore, order_before};
 use crate::order_search::OrderSearch;
-use crate::page_head::made_with;
-use crate::parts::{Part, Story};
 use crate::shown_calls::Shown;
 use crate::subject::Unexplained;
 use crate::subjects::{Subject, subjects_of};
-use crate::undecided::decision_words;
+use crate::timeline::add_failing_timeline;
+use crate::undecided::add_decision;
+use crate::view::View;
 use crate::why::add_why;
-use crate::words::{heard_words, op_words};
+use crate::word::Word::{Asked, Heard, Id, Number, Text};
+use events::{Event, History};
 use evidence::Certainty;
 use std::alloc::Global;
 use version_pair::NoMemory;
 
-// Returns the last event that matters: the broken reply, or a later event of the calls that are named.
-fn last_event(
-    alloc: Global,
-    unexplained: &Unexplained<'_>,
-    named: &Named,
-) -> Result<usize, NoMemory> {
-    let mut last = unexplained.event;
-    for no in named.numbers(alloc)?.iter() {
-        if let Some(call) = call_of(unexplained.history, *no) {
-            last = last.max(call.reply_place().unwrap_or(call.record.call_at));
-        }
-    }
-    Ok(last)
-}
-
-// Returns the document of the offence, in words.
-fn document_words(alloc: Global, call: &Call<'_>) -> Result<String, NoMemory> {
-    let id = id_words(alloc, call.id)?;
-    let shard = call.shard;
-    format!(in alloc; "The document: {id} on shard {shard}.")
-}
-
-// Returns the reply at which the search first fails, in words.
-fn offence_words(
-    alloc: Global,
+// Adds the document of the offence, and the reply at which the search first fails.
+fn add_offence(
+    draft: &mut Draft<'_>,
     unexplained: &Unexplained<'_>,
     call: &Call<'_>,
-    lines: &EventLines,
-) -> Result<String, NoMemory> {
-    let no = call.record.no;
-    let line = lines.line(unexplained.event);
-    let called = lines.line(call.record.call_at);
-    let asked = op_words(alloc, call.record.op)?;
-    let heard = heard_words(alloc, call.record.heard)?;
+) -> Result<(), NoMemory> {
+    let shard = Number(call.shard as u64);
+    draft.paragraph("The document: {} on shard {}.", &[Id(call.id), shard])?;
     let before = if unexplained.before_shown {
-        "The events before this reply have an order; with it none was found."
+        "The events before this reply have an order; with it, none was found."
     } else {
         "No order was found for the events before this reply either."
     };
-    format!(in alloc;
-        "The reply that broke it: line {line}, the reply to call {no} ({asked}, called in line {called}): {heard}. {before}"
+    let words = [
+        draft.line(unexplained.event),
+        Number(call.record.no),
+        Asked(call.record.op),
+        draft.called(&call.record),
+        Heard(call.record.heard),
+        Text(before),
+    ];
+    draft.paragraph(
+        "The reply that broke it: line {}, the reply to call {} ({}, called in line {}): {}. {}",
+        &words,
     )
 }
 
 // Adds how much the answer says, and of which reply.
 fn add_answer(
-    alloc: Global,
+    draft: &mut Draft<'_>,
     unexplained: &Unexplained<'_>,
     subjects: &[Subject<'_>],
-    lines: &EventLines,
-    parts: &mut Vec<Part>,
 ) -> Result<(), NoMemory> {
     let certainty = unexplained.certainty;
-    parts.push(Part::Paragraph(String::from_str(alloc, certainty_words(certainty))?))?;
+    draft.paragraph(certainty_words(certainty), &[])?;
     if let (Certainty::Undecided, Some(subject)) = (certainty, subjects.first()) {
-        parts.push(Part::Paragraph(decision_words(alloc, unexplained, subject, lines)?))?;
+        add_decision(draft, unexplained, subject)?;
     }
-    if let Some(call) = call_of(unexplained.history, unexplained.call) {
-        parts.push(Part::Paragraph(document_words(alloc, &call)?))?;
-        parts.push(Part::Paragraph(offence_words(alloc, unexplained, &call, lines)?))?;
+    match call_of(unexplained.history, unexplained.call) {
+        Some(call) => add_offence(draft, unexplained, &call),
+        None => Ok(()),
     }
-    Ok(())
-}
-
-// Returns what is kept of the calls of the documents.
-fn kept_of<'h>(
-    alloc: Global,
-    subjects: &[Subject<'h>],
-    named: &Named,
-    last: usize,
-) -> Result<Kept<'h>, NoMemory> {
-    let mut kept = Kept::new(alloc);
-    for subject in subjects {
-        kept.keep(named, (subject.id, subject.shard), &subject.records, last)?;
-    }
-    kept.sort();
-    Ok(kept)
 }
 
 // Returns an order of the calls of the first document before the broken reply, if one is found.
@@ -122,38 +91,64 @@ fn order_of<S: OrderSearch>(
     }
 }
 
+// Returns how many events, calls and documents the history has.
+fn counts_of(history: &History) -> HistoryCounts {
+    let mut calls = 0usize;
+    for place in 0..history.len() {
+        if matches!(history.event(place), Event::Call { .. }) {
+            // A history has too few events for the sum to reach the greatest number.
+            calls = calls.saturating_add(1);
+        }
+    }
+    HistoryCounts {
+        events: history.len(),
+        calls,
+        documents: history.docs(),
+    }
+}
+
+// Returns the explanation, with these documents.
+fn story_with<'h, S: OrderSearch>(
+    alloc: Global,
+    unexplained: &Unexplained<'h>,
+    lines: &EventLines,
+    search: &S,
+    subjects: &[Subject<'h>],
+    view: Option<&View<'_>>,
+) -> Result<Story, NoMemory> {
+    let order = order_of(alloc, unexplained, search, subjects)?;
+    let named = Named::of(alloc, unexplained, subjects)?;
+    let kept = Kept::of(alloc, subjects, &named)?;
+    let found = diagnosis_of(unexplained, subjects);
+    let mut draft = Draft::new(alloc, lines);
+    let title = add_headline(&mut draft, unexplained, found)?;
+    add_answer(&mut draft, unexplained, subjects)?;
+    add_why(&mut draft, unexplained, subjects, search)?;
+    add_damage(&mut draft, unexplained, subjects)?;
+    add_failing_timeline(&mut draft, unexplained, search, &named, view)?;
+    add_advice(&mut draft, unexplained, subjects, found)?;
+    let shown = Shown {
+        subjects,
+        kept: &kept,
+        named: &named,
+        order: &order,
+        event: unexplained.event,
+    };
+    shown.add(&mut draft)?;
+    let counts = counts_of(unexplained.whole);
+    Ok(draft.finish(title, Some(counts), Some(unexplained.conflicts)))
+}
+
 /// Returns the explanation of a history for which no order was found. How much the answer says is an
 /// argument; the explanation has one sentence for each value, which is tested, not proved. The search is used
-/// for an order of the calls before the reply that broke it.
+/// for an order of the calls before the reply that broke it. A timeline is added if one is asked for.
 pub fn failing_story<S: OrderSearch>(
     alloc: Global,
     unexplained: &Unexplained<'_>,
     lines: &EventLines,
     search: &S,
+    view: Option<&View<'_>>,
 ) -> Result<Story, NoMemory> {
     let subjects = subjects_of(alloc, unexplained)?;
-    let named = Named::of(alloc, unexplained, &subjects)?;
-    let last = last_event(alloc, unexplained, &named)?;
-    let kept = kept_of(alloc, &subjects, &named, last)?;
-    let order = order_of(alloc, unexplained, search, &subjects)?;
-    let found = diagnosis_of(unexplained, &subjects);
-    let mut parts = Vec::new(alloc);
-    let title = add_headline(alloc, unexplained, found, lines, &mut parts)?;
-    add_answer(alloc, unexplained, &subjects, lines, &mut parts)?;
-    add_why(alloc, unexplained, &subjects, lines, &mut parts)?;
-    add_advice(alloc, unexplained, &subjects, found, lines, &mut parts)?;
-    let shown = Shown {
-        kept: &kept,
-        named: &named,
-        order: &order,
-        lines,
-        event: unexplained.event,
-        several: subjects.len() > 1,
-    };
-    shown.add(alloc, &mut parts)?;
-    Ok(Story {
-        title,
-        made: made_with(Some(unexplained.conflicts)),
-        parts,
-    })
+    story_with(alloc, unexplained, lines, search, &subjects, view)
 }

@@ -1,9 +1,9 @@
 use crate::calls::Call;
 use crate::describing::MOST_DESCRIBED;
 use crate::named::Named;
-use events::Rec;
+use crate::subjects::Subject;
 use std::alloc::Global;
-use version_pair::{DocId, NoMemory};
+use version_pair::NoMemory;
 
 /// The greatest number of calls that are drawn.
 pub const MOST_DRAWN: usize = 200;
@@ -23,18 +23,30 @@ pub struct Kept<'h> {
 }
 
 impl<'h> Kept<'h> {
-    /// Returns what is kept of no documents. It allocates nothing.
-    pub fn new(alloc: Global) -> Kept<'h> {
-        Kept {
+    /// Returns what is kept of the calls of these documents, in the order in which they were made.
+    pub fn of(
+        alloc: Global,
+        subjects: &[Subject<'h>],
+        named: &Named,
+    ) -> Result<Kept<'h>, NoMemory> {
+        let mut kept = Kept {
             count: 0,
             calls: Vec::new(alloc),
             unanswered_count: 0,
             unanswered: Vec::new(alloc),
+        };
+        for subject in subjects {
+            kept.keep(named, subject)?;
         }
+        kept.calls.sort_unstable_by_key(|call| call.record.call_at);
+        kept.unanswered
+            .sort_unstable_by_key(|call| call.record.call_at);
+        Ok(kept)
     }
 
     // Counts a call, and keeps it if it is a write without a reply and there is room.
     fn count_call(&mut self, call: Call<'h>) -> Result<(), NoMemory> {
+        // A history has too few calls for these to reach the greatest number.
         self.count = self.count.saturating_add(1);
         if call.may_have_happened() {
             self.unanswered_count = self.unanswered_count.saturating_add(1);
@@ -45,25 +57,19 @@ impl<'h> Kept<'h> {
         Ok(())
     }
 
-    /// Keeps what is needed of the calls of a document, of this id and shard, up to an event.
-    pub fn keep(
-        &mut self,
-        named: &Named,
-        (id, shard): (&'h DocId, u32),
-        records: &[Rec],
-        last: usize,
-    ) -> Result<(), NoMemory> {
+    // Keeps what is needed of the calls of a document, up to the last event that matters.
+    fn keep(&mut self, named: &Named, subject: &Subject<'h>) -> Result<(), NoMemory> {
         let mut mattering = 0;
         let mut others = 0;
-        for record in records.iter().rev() {
-            let call = Call {
-                id,
-                shard,
-                record: *record,
-            };
-            if record.call_at > last {
+        for record in subject.all.iter().rev() {
+            if record.call_at > named.last {
                 continue;
             }
+            let call = Call {
+                id: subject.id,
+                shard: subject.shard,
+                record: *record,
+            };
             self.count_call(call)?;
             if named.matters(&call) {
                 if mattering < MOST_DRAWN {
@@ -76,12 +82,5 @@ impl<'h> Kept<'h> {
             }
         }
         Ok(())
-    }
-
-    /// Puts the calls into the order in which they were made.
-    pub fn sort(&mut self) {
-        self.calls.sort_unstable_by_key(|call| call.record.call_at);
-        self.unanswered
-            .sort_unstable_by_key(|call| call.record.call_at);
     }
 }

@@ -1,14 +1,15 @@
-use crate::calls::{Call, call_of, evidence_calls};
-use crate::parts::Mark;
+use crate::block::Mark;
+use crate::calls::{Call, EvidenceCalls, call_of, end_of};
+use crate::reason::Reason;
 use crate::subject::Unexplained;
-use crate::subjects::{Subject, reason_calls};
-use events::History;
+use crate::subjects::Subject;
+use events::{History, Rec};
 use std::alloc::Global;
 use version_pair::{NoMemory, Pair};
 
 // How much a call matters: it is one of the calls that are named, it made a version that they name, or it was
 // open at the same time as one of them.
-#[derive(Clone, Copy, Debug, PartialEq, Eq)]
+#[derive(Clone, Copy, PartialEq, Eq)]
 enum Rank {
     Named,
     Writer,
@@ -22,7 +23,9 @@ pub struct Named {
     broken: u64,
     // The calls of the evidence and of the reasons.
     reasons: Vec<u64>,
-    pairs: Vec<Pair>,
+    versions: Vec<Pair>,
+    /// The last event that matters: the broken reply, or a later event of these calls.
+    pub last: usize,
 }
 
 impl Named {
@@ -32,40 +35,68 @@ impl Named {
         unexplained: &Unexplained<'_>,
         subjects: &[Subject<'_>],
     ) -> Result<Named, NoMemory> {
-        let mut reasons = evidence_calls(alloc, unexplained.evidence)?;
-        reasons.extend_from_slice(reason_calls(alloc, subjects)?.as_slice())?;
         let mut named = Named {
             broken: unexplained.call,
-            reasons,
-            pairs: Vec::new(alloc),
+            reasons: Vec::new(alloc),
+            versions: Vec::new(alloc),
+            last: unexplained.event,
         };
-        for no in named.numbers(alloc)?.iter() {
-            named.note_pairs(unexplained.history, *no)?;
+        if let Some(call) = call_of(unexplained.history, unexplained.call) {
+            named.note(&call.record)?;
+        }
+        if let Some(evidence) = unexplained.evidence {
+            named.add_evidence(unexplained.history, EvidenceCalls::of(evidence))?;
+        }
+        for subject in subjects {
+            if let Some(reason) = &subject.reason {
+                named.add_reason(reason)?;
+            }
         }
         Ok(named)
     }
 
-    /// Returns the numbers of the calls; a number may be there twice.
-    pub fn numbers(&self, alloc: Global) -> Result<Vec<u64>, NoMemory> {
-        let mut numbers = vec![in alloc; self.broken]?;
-        numbers.extend_from_slice(self.reasons.as_slice())?;
-        Ok(numbers)
-    }
-
-    // Adds the versions that the call names.
-    fn note_pairs(&mut self, history: &History, no: u64) -> Result<(), NoMemory> {
-        if let Some(call) = call_of(history, no) {
-            if let Some(pair) = call.record.pair_taken() {
-                self.pairs.push(pair)?;
-            }
-            if let Some((pair, _)) = call.found() {
-                self.pairs.push(pair)?;
-            }
-            if let Some(pair) = call.record.op.condition() {
-                self.pairs.push(pair)?;
-            }
+    // Notes the versions that the call names, and its last event.
+    fn note(&mut self, record: &Rec) -> Result<(), NoMemory> {
+        self.last = self.last.max(end_of(record));
+        if let Some(pair) = record.heard.and_then(|heard| heard.1.pair()) {
+            self.versions.push(pair)?;
+        }
+        if let Some(pair) = record.op.condition() {
+            self.versions.push(pair)?;
         }
         Ok(())
+    }
+
+    // Adds a call of the evidence or of a reason.
+    fn add(&mut self, record: &Rec) -> Result<(), NoMemory> {
+        self.reasons.push(record.no)?;
+        self.note(record)
+    }
+
+    // Adds the calls of the evidence.
+    fn add_evidence(&mut self, history: &History, calls: EvidenceCalls) -> Result<(), NoMemory> {
+        if let Some(first) = call_of(history, calls.first) {
+            self.add(&first.record)?;
+        }
+        match calls.second.and_then(|no| call_of(history, no)) {
+            Some(second) => self.add(&second.record),
+            None => Ok(()),
+        }
+    }
+
+    // Adds the calls of a reason; none if the evidence already explains the call that has no position.
+    fn add_reason(&mut self, reason: &Reason) -> Result<(), NoMemory> {
+        if reason.is_reported {
+            return Ok(());
+        }
+        self.add(&reason.stop)?;
+        for link in reason.links.iter() {
+            self.add(&link.record)?;
+        }
+        match &reason.shower {
+            Some(shower) => self.add(shower),
+            None => Ok(()),
+        }
     }
 
     /// Returns how the call stands out.
@@ -85,9 +116,14 @@ impl Named {
             return true;
         }
         match call.record.pair_taken() {
-            Some(taken) => self.pairs.iter().any(|pair| *pair == taken),
+            Some(taken) => self.versions.iter().any(|pair| *pair == taken),
             None => false,
         }
+    }
+
+    // Whether reasons are named that need neither a write without a reply nor a conflict, and the call is one.
+    fn can_do_without(&self, call: &Call<'_>) -> bool {
+        !self.reasons.is_empty() && (call.may_have_happened() || call.is_refused())
     }
 
     // Returns how much the call matters. `beside` are the calls that are named.
@@ -96,6 +132,8 @@ impl Named {
             Rank::Named
         } else if self.matters(call) {
             Rank::Writer
+        } else if self.can_do_without(call) {
+            Rank::Other
         } else if beside.iter().any(|other| call.is_open_with(other)) {
             Rank::Beside
         } else {

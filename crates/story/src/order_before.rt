@@ -1,8 +1,10 @@
+use crate::block::PlaceReported;
+use crate::describing::record_at;
+use crate::draft::Draft;
 use crate::order_search::OrderSearch;
-use crate::parts::PlaceReported;
 use crate::subject::Unexplained;
 use crate::window::window_before;
-use crate::words::{op_words, state_words};
+use crate::word::Word::{Asked, State, Text};
 use doc_register::{DocState, state_after};
 use events::Rec;
 use places::{DocWitness, Place};
@@ -16,6 +18,8 @@ pub struct OrderStep {
     pub state: DocState,
     /// Whether the call changed the document.
     pub is_change: bool,
+    /// The moment at which it takes effect: the position of the last call up to this place.
+    pub point: usize,
 }
 
 /// An order of the calls of a document, or the end of one.
@@ -28,13 +32,14 @@ pub struct OrderBefore {
     pub steps: Vec<OrderStep>,
 }
 
-// Returns the step at a place, from this state.
-fn step_from(state: DocState, place: Place, record: Rec) -> OrderStep {
+// Returns the step at a place, from this state and moment.
+fn step_from(state: DocState, point: usize, place: Place, record: Rec) -> OrderStep {
     let taken = place.pair.or(record.pair_taken());
     OrderStep {
         record,
         state: taken.map_or(state, |pair| state_after(state, &record.op, pair)),
         is_change: taken.is_some(),
+        point: point.max(record.call_at),
     }
 }
 
@@ -45,10 +50,12 @@ fn last_steps(
     unreported: usize,
     most: usize,
 ) -> Result<OrderBefore, NoMemory> {
+    // If there are no more places than that, the first one is shown.
     let first = witness.places().len().saturating_sub(most).max(unreported);
     let mut state = DocState::Never;
+    let mut point = 0usize;
     let mut order = OrderBefore {
-        left_out: first.saturating_sub(unreported),
+        left_out: first - unreported,
         start: state,
         steps: Vec::new(alloc),
     };
@@ -56,15 +63,21 @@ fn last_steps(
         if i == first {
             order.start = state;
         }
-        if let Some(record) = witness.records().get(place.rec) {
-            let step = step_from(state, *place, *record);
+        if let Some(record) = record_at(witness, place) {
+            let step = step_from(state, point, *place, record);
             state = step.state;
+            point = step.point;
             if i >= first {
                 order.steps.push(step)?;
             }
         }
     }
     Ok(order)
+}
+
+/// Returns the order of the witness.
+pub fn order_of_witness(alloc: Global, witness: &DocWitness) -> Result<OrderBefore, NoMemory> {
+    last_steps(alloc, witness, 0, usize::MAX)
 }
 
 /// Returns the last places, at most that many, of an order of the document's calls before the reply that
@@ -77,26 +90,17 @@ pub fn order_before<S: OrderSearch>(
     records: &[Rec],
     most: usize,
 ) -> Result<Option<OrderBefore>, NoMemory> {
-    let window = window_before(
-        alloc,
-        records,
-        unexplained.event,
-        unexplained.conflicts,
-        most,
-    )?;
+    let event = unexplained.event;
+    let conflicts = unexplained.conflicts;
+    let window = window_before(alloc, records, event, conflicts, most)?;
     let unreported = if window.is_prefixed { 1 } else { 0 };
     let answered_before = window.answered_before;
-    let seen = unexplained.history.front(unexplained.event).seen();
-    let found = search.order(
-        alloc,
-        id.copy()?,
-        window.records,
-        seen,
-        unexplained.conflicts,
-    )?;
+    let seen = unexplained.history.front(event).seen();
+    let found = search.order(alloc, id.copy()?, window.records, seen, conflicts)?;
     match found {
         Some(witness) => {
             let mut order = last_steps(alloc, &witness, unreported, most)?;
+            // A document has too few calls for the sum to reach the greatest number.
             order.left_out = order.left_out.saturating_add(answered_before);
             Ok(Some(order))
         }
@@ -104,19 +108,28 @@ pub fn order_before<S: OrderSearch>(
     }
 }
 
+// Returns a place of an order in words.
+fn place_reported(draft: &Draft<'_>, step: &OrderStep) -> Result<PlaceReported, NoMemory> {
+    let after = if step.is_change {
+        State(step.state)
+    } else {
+        Text("as before")
+    };
+    Ok(PlaceReported {
+        no: step.record.no,
+        asked: draft.sentence("{}", &[Asked(step.record.op)])?,
+        after: draft.sentence("{}", &[after])?,
+    })
+}
+
 /// Returns the order in words.
-pub fn places_reported(alloc: Global, order: &OrderBefore) -> Result<Vec<PlaceReported>, NoMemory> {
-    let mut reported = Vec::new(alloc);
+pub fn places_reported(
+    draft: &Draft<'_>,
+    order: &OrderBefore,
+) -> Result<Vec<PlaceReported>, NoMemory> {
+    let mut reported = Vec::new(draft.alloc);
     for step in order.steps.iter() {
-        reported.push(PlaceReported {
-            no: step.record.no,
-            asked: op_words(alloc, step.record.op)?,
-            after: if step.is_change {
-                state_words(alloc, step.state)?
-            } else {
-                String::from_str(alloc, "as before")?
-            },
-        })?;
+        reported.push(place_reported(draft, step)?)?;
     }
     Ok(reported)
 }

@@ -1,4 +1,8 @@
-use crate::parts::{CallReported, Mark, Part, PlaceReported, Story};
+use crate::block::{
+    Block, CallReported, CallRow, CallTable, Mark, NoteReported, PlaceReported, Story,
+};
+use crate::word::Word::{Line, Number, Phrase, Text};
+use crate::word::add_sentence;
 use std::alloc::Global;
 use version_pair::NoMemory;
 
@@ -11,87 +15,95 @@ fn mark_sign(mark: Mark) -> &'static str {
     }
 }
 
-// Returns the line of a call.
-fn call_line(alloc: Global, call: &CallReported) -> Result<String, NoMemory> {
-    let sign = mark_sign(call.mark);
-    let line = call.line;
-    let no = call.no;
-    let asked = call.asked.as_str();
-    let answered = call.answered.as_str();
-    let open = call.open_with.as_str();
-    if open.is_empty() {
-        format!(in alloc; "{sign} line {line}, call {no}: {asked} -> {answered}\n")
-    } else {
-        format!(in alloc;
-            "{sign} line {line}, call {no}: {asked} -> {answered} (open at the same time: {open})\n"
-        )
+// Adds the line of a call.
+fn add_call(text: &mut String, call: &CallReported) -> Result<(), NoMemory> {
+    let sign = Text(mark_sign(call.mark));
+    let asked = Phrase(call.asked.as_str());
+    let words = [sign, Line(call.line), Number(call.no)];
+    add_sentence(text, "{} line {}, call {}", &words)?;
+    if !call.client.is_empty() {
+        add_sentence(text, " by {}", &[Phrase(call.client.as_str())])?;
     }
+    add_sentence(text, ": {} -> ", &[asked])?;
+    if let Some(line) = call.replied {
+        add_sentence(text, "line {}: ", &[Line(line)])?;
+    }
+    text.push_str(call.answered.as_str())?;
+    if !call.open_with.is_empty() {
+        let open = Phrase(call.open_with.as_str());
+        add_sentence(text, " (open at the same time: {})", &[open])?;
+    }
+    text.push_str("\n")
 }
 
-// Returns the line of a place of an order.
-fn place_line(alloc: Global, place: &PlaceReported) -> Result<String, NoMemory> {
-    let no = place.no;
-    let asked = place.asked.as_str();
-    let after = place.after.as_str();
-    format!(in alloc; "  call {no}: {asked} -> {after}\n")
+// Adds the line of a note.
+fn add_note(text: &mut String, note: &NoteReported) -> Result<(), NoMemory> {
+    let words = [Line(note.line), Phrase(note.text.as_str())];
+    add_sentence(text, "  line {}, note: {}\n", &words)
+}
+
+// Whether the row is of a call that stands out.
+fn is_marked(row: &CallRow) -> bool {
+    match row {
+        CallRow::Call(call) => call.mark != Mark::Plain,
+        CallRow::Note(_) => false,
+    }
 }
 
 // Adds the lines of the calls.
-fn add_calls(alloc: Global, calls: &[CallReported], text: &mut String) -> Result<(), NoMemory> {
-    for call in calls {
-        let line = call_line(alloc, call)?;
-        text.push_str(line.as_str())?;
+fn add_calls(text: &mut String, table: &CallTable) -> Result<(), NoMemory> {
+    for row in table.rows.iter() {
+        match row {
+            CallRow::Call(call) => add_call(text, call)?,
+            CallRow::Note(note) => add_note(text, note)?,
+        }
     }
-    if calls.iter().any(|call| call.mark != Mark::Plain) {
-        text.push_str("! the reply that broke it; * evidence, or a call of the reasons\n")?;
+    if table.rows.iter().any(|row| is_marked(row)) {
+        text.push_str("! the reply that broke it; * a call that the evidence or a reason names\n")?;
     }
     Ok(())
 }
 
 // Adds the lines of an order.
-fn add_places(alloc: Global, places: &[PlaceReported], text: &mut String) -> Result<(), NoMemory> {
+fn add_places(text: &mut String, places: &[PlaceReported]) -> Result<(), NoMemory> {
     for place in places {
-        let line = place_line(alloc, place)?;
-        text.push_str(line.as_str())?;
+        let asked = Phrase(place.asked.as_str());
+        let after = Phrase(place.after.as_str());
+        add_sentence(
+            text,
+            "  call {}: {} -> {}\n",
+            &[Number(place.no), asked, after],
+        )?;
     }
     Ok(())
 }
 
 // Adds the items.
-fn add_items(items: &[String], text: &mut String) -> Result<(), NoMemory> {
+fn add_items(text: &mut String, items: &[String]) -> Result<(), NoMemory> {
     for item in items {
-        text.push_str("  ")?;
-        text.push_str(item.as_str())?;
-        text.push_str("\n")?;
+        add_sentence(text, "  {}\n", &[Phrase(item.as_str())])?;
     }
     Ok(())
 }
 
-// Adds a part; plain text leaves out drawings and folds.
-fn add_part(alloc: Global, part: &Part, text: &mut String) -> Result<(), NoMemory> {
-    match part {
-        Part::Heading(heading) => {
-            text.push_str("\n")?;
-            text.push_str(heading)?;
-            text.push_str(":\n")
-        }
-        Part::Paragraph(words) => {
-            text.push_str(words.as_str())?;
-            text.push_str("\n")
-        }
-        Part::Items(items) => add_items(items, text),
-        Part::Calls(calls) => add_calls(alloc, calls, text),
-        Part::Order(places) => add_places(alloc, places, text),
-        Part::Drawing(_) | Part::FoldStart(_) | Part::FoldEnd => Ok(()),
+// Adds a block; plain text leaves out drawings and folds.
+fn add_block(text: &mut String, block: &Block) -> Result<(), NoMemory> {
+    match block {
+        Block::Heading(heading) => add_sentence(text, "\n{}:\n", &[Text(heading)]),
+        Block::Paragraph(words) => add_sentence(text, "{}\n", &[Phrase(words.as_str())]),
+        Block::Items(items) => add_items(text, items),
+        Block::Calls(table) => add_calls(text, table),
+        Block::Order(places) => add_places(text, places),
+        Block::Drawing(_) | Block::FoldStart(_) | Block::FoldEnd => Ok(()),
     }
 }
 
 /// Returns the explanation as plain text, which begins with an empty line.
 pub fn plain_text(alloc: Global, story: &Story) -> Result<String, NoMemory> {
-    let title = story.title.as_str();
-    let mut text = format!(in alloc; "\n{title}\n")?;
-    for part in story.parts.iter() {
-        add_part(alloc, part, &mut text)?;
+    let mut text = String::new(alloc);
+    add_sentence(&mut text, "\n{}\n", &[Phrase(story.title.as_str())])?;
+    for block in story.blocks.iter() {
+        add_block(&mut text, block)?;
     }
     Ok(text)
 }

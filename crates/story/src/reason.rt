@@ -1,7 +1,8 @@
-use crate::calls::evidence_calls;
+use crate::calls::{EvidenceCalls, end_of};
 use crate::subject::Unexplained;
+use doc_register::Conflicts;
 use events::Rec;
-use evidence::{Refuted, refutes};
+use evidence::{Refuted, is_document_ruled_out};
 use ruled_out::{Cause, Stage, Standing, Standings, Unhelpful, Unmet};
 use std::alloc::Global;
 use version_pair::{NoMemory, Pair};
@@ -17,6 +18,13 @@ pub struct ReasonLink {
     pub record: Rec,
     pub from: Stage,
     pub to: Stage,
+}
+
+/// A write of which no reply says whether it was performed, and why it doesn't help.
+#[derive(Clone, Copy)]
+pub struct Unreported {
+    pub write: Rec,
+    pub why: Unhelpful,
 }
 
 /// Why no order explains a document, whatever became of its calls without a reply.
@@ -35,9 +43,8 @@ pub struct Reason {
     /// The version that is mentioned beside these, and the first call that shows it.
     pub last: Option<Pair>,
     pub shower: Option<Rec>,
-    /// The writes that were checked of which no reply says whether they were performed, each with why it
-    /// doesn't help; the first few.
-    pub unreported: Vec<(Rec, Unhelpful)>,
+    /// The first few of the writes of which no reply says whether they were performed.
+    pub unreported: Vec<Unreported>,
     /// The number of all of them.
     pub unreported_count: usize,
     /// Whether the evidence already explains the call that has no position.
@@ -45,40 +52,21 @@ pub struct Reason {
 }
 
 impl Reason {
-    /// Returns the numbers of the calls that it mentions; none if the evidence already explains the call that
-    /// has no position.
-    pub fn calls(&self, alloc: Global) -> Result<Vec<u64>, NoMemory> {
-        if self.is_reported {
-            return Ok(Vec::new(alloc));
-        }
-        let mut numbers = vec![in alloc; self.stop.no]?;
-        for link in self.links.iter() {
-            numbers.push(link.record.no)?;
-        }
-        if let Some(shower) = self.shower {
-            numbers.push(shower.no)?;
-        }
-        Ok(numbers)
-    }
-
-    /// Returns the calls whose replies show the versions that it mentions.
-    pub fn showers(&self, alloc: Global) -> Result<Vec<Rec>, NoMemory> {
-        let mut showers = Vec::new(alloc);
-        if let Some(shower) = self.shower {
-            showers.push(shower)?;
-        }
-        for link in self.links.iter() {
-            showers.push(link.record)?;
-        }
-        Ok(showers)
-    }
-
     /// Returns the call that shows the version that nobody can have written; `None` if that is not the cause.
     pub fn unwritten(&self) -> Option<Rec> {
         match self.cause {
             Cause::Unwritten(_) => self.shower,
             _ => None,
         }
+    }
+
+    /// Returns whether it names a call or a reply that stands after the event.
+    pub fn names_after(&self, event: usize) -> bool {
+        let is_later = |record: &Rec| end_of(record) > event;
+        is_later(&self.stop)
+            || self.shower.is_some_and(|shower| is_later(&shower))
+            || self.links.iter().any(|link| is_later(&link.record))
+            || self.unreported.iter().any(|it| it.write.call_at > event)
     }
 
     /// Returns whether some indeterminate write could have given the call a position.
@@ -123,6 +111,11 @@ pub fn shows(record: &Rec, pair: Pair) -> bool {
     shown == Some(pair) || asked == Some(pair)
 }
 
+// Returns the record of a standing. There always is one: the standings are of these records.
+fn record_of(records: &[Rec], standing: Standing) -> Option<Rec> {
+    records.get(standing.record).copied()
+}
+
 // Returns a standing as a link of a chain.
 fn link_of(standings: &Standings, standing: Standing, record: Rec) -> ReasonLink {
     ReasonLink {
@@ -132,64 +125,82 @@ fn link_of(standings: &Standings, standing: Standing, record: Rec) -> ReasonLink
     }
 }
 
-// Returns the chain that leads to the standing, the first call first, and whether it is cut. It begins with a
-// call whose reply shows the version, or with one that is bound by none.
+// Returns the standing that bounds another one.
+fn bounding(standings: &Standings, standing: Standing) -> Option<Standing> {
+    standings.standings().get(standing.bound?).copied()
+}
+
+// The calls that lead to a standing, the first one first.
+#[derive(Drop)]
+struct Chain {
+    links: Vec<ReasonLink>,
+    // Whether earlier ones are left out.
+    is_cut: bool,
+}
+
+// Returns the chain that leads to the standing at which the walk stops, if the cause is about that; else an empty
+// one. It begins with a call whose reply shows the version, or with one that is bound by none.
 fn chain_to(
     alloc: Global,
     records: &[Rec],
     standings: &Standings,
     stop: Standing,
-) -> Result<(Vec<ReasonLink>, bool), NoMemory> {
+    cause: Cause,
+) -> Result<Chain, NoMemory> {
     let mut links = Vec::new(alloc);
-    let mut next = stop.bound;
+    let mut next = if is_bound(standings, stop, cause) {
+        bounding(standings, stop)
+    } else {
+        None
+    };
     for _ in 0..MOST_LINKS {
-        let Some(standing) = next.and_then(|at| standings.standings().get(at).copied()) else {
+        let Some(standing) = next else {
             break;
         };
-        let Some(record) = records.get(standing.record).copied() else {
+        let Some(record) = record_of(records, standing) else {
             break;
         };
         links.push(link_of(standings, standing, record))?;
-        next = match record.heard.and_then(|heard| heard.1.pair()) {
-            Some(_) => None,
-            None => standing.bound,
+        let is_shown = record.heard.is_some_and(|heard| heard.1.pair().is_some());
+        next = if is_shown {
+            None
+        } else {
+            bounding(standings, standing)
         };
     }
     links.reverse();
-    Ok((links, next.is_some()))
+    Ok(Chain {
+        links,
+        is_cut: next.is_some(),
+    })
 }
 
-// Returns the first few of the writes of which no reply says whether they were performed, and the number of
-// all of them. Those that were made last before the event come first.
+// Returns the first few of the writes of which no reply says whether they were performed. Those that were made
+// last before the event come first.
 fn unreported_writes(
     alloc: Global,
     records: &[Rec],
     standings: &Standings,
     event: usize,
-) -> Result<(Vec<(Rec, Unhelpful)>, usize), NoMemory> {
+) -> Result<Vec<Unreported>, NoMemory> {
     let early = records.partition_point(|record| record.call_at < event);
-    let mut count = 0usize;
     let mut unreported = Vec::new(alloc);
     for number in (0..early).rev().chain(early..records.len()) {
-        if !standings.is_unreported(number) {
-            continue;
-        }
-        count = count.saturating_add(1);
-        if unreported.len() < MOST_LOST {
-            if let (Some(record), Some(why)) = (records.get(number), standings.unhelpful(number)) {
-                unreported.push((*record, why))?;
+        if unreported.len() < MOST_LOST && standings.is_unreported(number) {
+            if let (Some(write), Some(why)) = (records.get(number), standings.unhelpful(number)) {
+                unreported.push(Unreported { write: *write, why })?;
             }
         }
     }
-    Ok((unreported, count))
+    Ok(unreported)
 }
 
 // Whether the evidence is of another kind than `RuledOut` and names the call.
-fn is_reported(alloc: Global, evidence: Option<Refuted>, no: u64) -> Result<bool, NoMemory> {
-    if let Some(Refuted::RuledOut(_)) = evidence {
-        return Ok(false);
+fn is_reported(evidence: Option<Refuted>, no: u64) -> bool {
+    match evidence {
+        None | Some(Refuted::RuledOut(_)) => false,
+        Some(evidence) => EvidenceCalls::of(evidence).contain(no),
     }
-    Ok(evidence_calls(alloc, evidence)?.contains(&no))
 }
 
 // Returns the reason for a document whose walk stops at this call.
@@ -201,15 +212,13 @@ fn reason_at(
     (stop, cause): (Standing, Cause),
     record: Rec,
 ) -> Result<Reason, NoMemory> {
-    let event = record.heard.map_or(record.call_at, |heard| heard.0);
-    let (unreported, unreported_count) = unreported_writes(alloc, records, standings, event)?;
-    let (links, is_cut) = if is_bound(standings, stop, cause) {
-        chain_to(alloc, records, standings, stop)?
-    } else {
-        (Vec::new(alloc), false)
-    };
+    let event = end_of(&record);
     let last = version_spoken_of(standings, record, cause);
     let shower = last.and_then(|pair| records.iter().find(|it| shows(it, pair)));
+    let all = (0..records.len()).filter(|number| standings.is_unreported(*number));
+    let unreported_count = all.count();
+    let Chain { links, is_cut } = chain_to(alloc, records, standings, stop, cause)?;
+    let unreported = unreported_writes(alloc, records, standings, event)?;
     Ok(Reason {
         stop: record,
         cause,
@@ -220,36 +229,44 @@ fn reason_at(
         shower: shower.copied(),
         unreported,
         unreported_count,
-        is_reported: is_reported(alloc, evidence, record.no)?,
+        is_reported: is_reported(evidence, record.no),
     })
 }
 
-/// Returns why no order explains the document with these records; `None` if it isn't ruled out.
+/// Returns why no order explains the document with these records, as a guess for people; `None` if none is
+/// found.
+pub fn found_reason(
+    alloc: Global,
+    evidence: Option<Refuted>,
+    records: &[Rec],
+    conflicts: Conflicts,
+) -> Result<Option<Reason>, NoMemory> {
+    let standings = Standings::of(alloc, records, conflicts)?;
+    let Some((stop, cause)) = standings.stop() else {
+        return Ok(None);
+    };
+    let Some(record) = record_of(records, stop) else {
+        return Ok(None);
+    };
+    let reason = reason_at(alloc, evidence, records, &standings, (stop, cause), record)?;
+    Ok(Some(reason))
+}
+
+/// Returns why no order explains the document of this number, with these records; `None` if it isn't ruled
+/// out.
 ///
 /// The reason is a guess for people. But if there is one, the document is ruled out (provably not
 /// linearizable): that is checked again, as evidence is.
 pub fn reason_of(
     alloc: Global,
     unexplained: &Unexplained<'_>,
+    doc: usize,
     records: &[Rec],
 ) -> Result<Option<Reason>, NoMemory> {
-    let standings = Standings::of(alloc, records, unexplained.conflicts)?;
-    let Some((stop, cause)) = standings.stop() else {
-        return Ok(None);
-    };
-    let Some(record) = records.get(stop.record).copied() else {
-        return Ok(None);
-    };
-    let ruled_out = Refuted::RuledOut(record.no);
-    if !refutes(
-        alloc,
-        unexplained.history,
-        &ruled_out,
-        unexplained.conflicts,
-    )? {
-        return Ok(None);
+    let history = unexplained.history;
+    let conflicts = unexplained.conflicts;
+    if doc < history.docs() && is_document_ruled_out(alloc, history, doc, conflicts)? {
+        return found_reason(alloc, unexplained.evidence, records, conflicts);
     }
-    let found = unexplained.evidence;
-    let reason = reason_at(alloc, found, records, &standings, (stop, cause), record)?;
-    Ok(Some(reason))
+    Ok(None)
 }

@@ -19,11 +19,17 @@ pub struct Explained<'h> {
 /// What an explanation says of a history for which no order was found.
 #[derive(Clone, Copy)]
 pub struct Unexplained<'h> {
+    /// The history that the reasons are about: the whole one, or a prefix that no order explains either.
     pub history: &'h History,
+    /// The whole history.
+    pub whole: &'h History,
     /// How a conflict was read.
     pub conflicts: Conflicts,
     /// The evidence that there is no order, if some was found.
     pub evidence: Option<Refuted>,
+    /// The evidence that the first line reports, if the explanation rests on reasons in a shorter prefix
+    /// instead.
+    pub reported: Option<Refuted>,
     /// How much the answer says.
     pub certainty: Certainty,
     /// The position of the reply at which the search first failed, from 0.

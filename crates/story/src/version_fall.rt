@@ -4,7 +4,7 @@ use version_pair::{NoMemory, Pair};
 
 /// A write that was performed, and the version that it was given.
 #[derive(Clone, Copy)]
-pub struct Given {
+pub struct VersionedWrite {
     pub write: Rec,
     pub pair: Pair,
 }
@@ -12,83 +12,66 @@ pub struct Given {
 /// A write that got a version below one that had been given before the write was made.
 #[derive(Clone, Copy)]
 pub struct VersionFall {
-    pub before: Given,
-    pub after: Given,
+    pub before: VersionedWrite,
+    pub after: VersionedWrite,
 }
 
-// The write with the greatest version among those that were answered up to an event.
+// A reply to a write that was performed, and the write with the greatest version among those that were answered
+// up to it.
 #[derive(Clone, Copy)]
-struct Greatest {
+struct Reached {
     event: usize,
-    given: Given,
+    greatest: VersionedWrite,
 }
 
 // Returns the record as a write that was performed; `None` if its reply doesn't say so.
-fn given_by(record: &Rec) -> Option<Given> {
+fn performed_by(record: &Rec) -> Option<VersionedWrite> {
     let pair = record.pair_taken()?;
-    Some(Given {
+    Some(VersionedWrite {
         write: *record,
         pair,
     })
 }
 
-// Returns the writes of the document that were performed, in response order.
-fn given_by_reply(alloc: Global, records: &[Rec]) -> Result<Vec<Greatest>, NoMemory> {
+// Returns the writes of the document that were performed, in response order, each as the greatest.
+fn performed_by_reply(alloc: Global, records: &[Rec]) -> Result<Vec<Reached>, NoMemory> {
     let mut all = Vec::new(alloc);
     for record in records {
-        if let (Some(given), Some(heard)) = (given_by(record), record.heard) {
-            all.push(Greatest {
-                event: heard.0,
-                given,
-            })?;
+        if let (Some(greatest), Some(heard)) = (performed_by(record), record.heard) {
+            let event = heard.0;
+            all.push(Reached { event, greatest })?;
         }
     }
     all.sort_unstable_by_key(|it| it.event);
     Ok(all)
 }
 
-// Returns the one of two writes with the greater version; the second if there is no first.
-fn greater_of(before: Option<Given>, given: Given) -> Given {
-    let Some(last) = before else {
-        return given;
-    };
-    if given.pair.is_below(last.pair) {
-        last
-    } else {
-        given
+// Returns what was reached with each reply to a write that was performed, in response order.
+fn reached_by_reply(alloc: Global, records: &[Rec]) -> Result<Vec<Reached>, NoMemory> {
+    let mut all = performed_by_reply(alloc, records)?;
+    let mut last: Option<VersionedWrite> = None;
+    for it in all.iter_mut() {
+        if let Some(before) = last {
+            if it.greatest.pair.is_below(before.pair) {
+                it.greatest = before;
+            }
+        }
+        last = Some(it.greatest);
     }
-}
-
-// Returns, for each reply to a write that was performed, the write with the greatest version among those that
-// were answered up to it, in response order.
-fn greatest_by_reply(alloc: Global, records: &[Rec]) -> Result<Vec<Greatest>, NoMemory> {
-    let mut greatest = Vec::new(alloc);
-    let mut last = None;
-    for it in given_by_reply(alloc, records)?.iter() {
-        let given = greater_of(last, it.given);
-        greatest.push(Greatest {
-            event: it.event,
-            given,
-        })?;
-        last = Some(given);
-    }
-    Ok(greatest)
+    Ok(all)
 }
 
 /// Returns the first write of the document, by call, that got a version below one that had been given before
 /// the write was made; `None` if there is none.
 pub fn version_fall(alloc: Global, records: &[Rec]) -> Result<Option<VersionFall>, NoMemory> {
-    let greatest = greatest_by_reply(alloc, records)?;
+    let reached = reached_by_reply(alloc, records)?;
     for record in records {
-        let called = record.call_at;
-        let answered = greatest.partition_point(|it| it.event < called);
-        let before = answered.checked_sub(1).and_then(|at| greatest.get(at));
-        if let (Some(after), Some(before)) = (given_by(record), before) {
-            if after.pair.is_below(before.given.pair) {
-                return Ok(Some(VersionFall {
-                    before: before.given,
-                    after,
-                }));
+        let answered = reached.partition_point(|it| it.event < record.call_at);
+        let before = reached[..answered].last();
+        if let (Some(after), Some(before)) = (performed_by(record), before) {
+            if after.pair.is_below(before.greatest.pair) {
+                let before = before.greatest;
+                return Ok(Some(VersionFall { before, after }));
             }
         }
     }

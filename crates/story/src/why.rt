@@ -1,180 +1,171 @@
-use crate::calls::{call_of, evidence_calls, id_words};
-use crate::event_lines::EventLines;
+use crate::block::Block;
+use crate::calls::{EvidenceCalls, call_of};
+use crate::draft::Draft;
 use crate::evidence_words::evidence_words;
-use crate::hidden_write::hidden_words;
-use crate::late_line::late_words;
-use crate::parts::Part;
+use crate::hidden_write::{add_hidden_write, add_other_reading};
+use crate::late_line::add_late_line;
+use crate::order_search::OrderSearch;
+use crate::reason::Reason;
 use crate::reason_parts::{add_reason, add_unreported};
+use crate::reported_calls::add_reported_calls;
 use crate::subject::Unexplained;
 use crate::subjects::Subject;
+use crate::word::Word::{Id, Number};
 use events::Rec;
 use evidence::Refuted;
-use std::alloc::Global;
 use version_pair::NoMemory;
 
 // Says that the evidence is of another document than the reply at which the search failed, if it is.
-fn add_other_document(
-    alloc: Global,
-    unexplained: &Unexplained<'_>,
-    subjects: &[Subject<'_>],
-    parts: &mut Vec<Part>,
+fn add_other_document<'h>(
+    draft: &mut Draft<'_>,
+    unexplained: &Unexplained<'h>,
+    subjects: &[Subject<'h>],
 ) -> Result<(), NoMemory> {
-    let Some(subject) = subjects.first() else {
+    let (Some(subject), Some(evidence)) = (subjects.first(), unexplained.evidence) else {
         return Ok(());
     };
-    let numbers = evidence_calls(alloc, unexplained.evidence)?;
-    let Some(evidence) = numbers
-        .first()
-        .and_then(|no| call_of(unexplained.history, *no))
-    else {
+    let calls = EvidenceCalls::of(evidence);
+    if subject
+        .records
+        .iter()
+        .any(|record| calls.contain(record.no))
+    {
         return Ok(());
-    };
-    for no in numbers.iter() {
-        if subject.records.iter().any(|record| record.no == *no) {
-            return Ok(());
-        }
     }
-    let first = id_words(alloc, subject.id)?;
-    let other = id_words(alloc, evidence.id)?;
-    let shard = evidence.shard;
-    let call = unexplained.call;
-    parts.push(Part::Paragraph(format!(in alloc;
-        "The search failed first at {first}, with the reply to call {call}. The calls that prove it are of another document, {other} on shard {shard}; both documents are shown."
-    )?))?;
-    Ok(())
+    let Some(other) = call_of(unexplained.history, calls.first) else {
+        return Ok(());
+    };
+    draft.paragraph(
+        "The search failed first at {}, with the reply to call {}. The calls that prove it are of another document, {} on shard {}; both documents are shown.",
+        &[
+            Id(subject.id),
+            Number(unexplained.call),
+            Id(other.id),
+            Number(other.shard as u64),
+        ],
+    )
 }
 
 // Adds why no order explains the document, if it is ruled out.
 fn add_subject(
-    alloc: Global,
+    draft: &mut Draft<'_>,
     unexplained: &Unexplained<'_>,
     subject: &Subject<'_>,
     several: bool,
-    lines: &EventLines,
-    parts: &mut Vec<Part>,
 ) -> Result<(), NoMemory> {
     let Some(reason) = &subject.reason else {
         return Ok(());
     };
-    if reason.is_reported {
-        if reason.wants_write() {
-            add_unreported(alloc, reason, lines, unexplained.conflicts, parts)?;
-        }
-        return Ok(());
-    }
-    if several {
-        let id = id_words(alloc, subject.id)?;
-        parts.push(Part::Paragraph(format!(in alloc; "Of the document {id}:")?))?;
-    }
-    add_reason(alloc, reason, lines, unexplained.conflicts, parts)
-}
-
-// Returns the call that shows what nobody can have written, if the evidence or the reason is about one.
-fn unwritten_of(unexplained: &Unexplained<'_>, subject: &Subject<'_>) -> Option<Rec> {
-    match (unexplained.evidence, &subject.reason) {
-        (Some(Refuted::NoWriter(no)), _) => {
-            subject
-                .records
-                .iter()
-                .find(|record| record.no == no)
-                .copied()
-        }
-        (_, Some(reason)) => reason.unwritten(),
-        (_, None) => None,
-    }
-}
-
-// Asks whether a conflict hid a write, if it seems so.
-fn add_hidden(
-    alloc: Global,
-    unexplained: &Unexplained<'_>,
-    subject: &Subject<'_>,
-    lines: &EventLines,
-    parts: &mut Vec<Part>,
-) -> Result<(), NoMemory> {
-    let Some(get) = unwritten_of(unexplained, subject) else {
-        return Ok(());
-    };
     let conflicts = unexplained.conflicts;
-    if let Some(words) = hidden_words(alloc, &get, &subject.records, lines, conflicts)? {
-        parts.push(Part::Paragraph(words))?;
+    if !reason.is_reported {
+        if several {
+            draft.paragraph("Of the document {}:", &[Id(subject.id)])?;
+        }
+        return add_reason(draft, reason, conflicts);
+    }
+    if reason.wants_write() {
+        return add_unreported(draft, reason, conflicts);
     }
     Ok(())
 }
 
-// Returns the calls whose replies may show what a line that was written late writes.
-fn suspects_of(
-    alloc: Global,
+// Returns the get that the evidence says nobody can have written for, if it is one of these calls.
+fn get_without_writer(evidence: Option<Refuted>, records: &[Rec]) -> Option<Rec> {
+    match evidence {
+        Some(Refuted::NoWriter(no)) => records.iter().find(|record| record.no == no).copied(),
+        _ => None,
+    }
+}
+
+// Asks whether a conflict hid a write, if it seems so: of the call that shows what nobody can have written, if the
+// evidence, that of the first line or the reason is about one. Returns whether it does.
+fn add_hidden(
+    draft: &mut Draft<'_>,
     unexplained: &Unexplained<'_>,
     subject: &Subject<'_>,
-) -> Result<Vec<Rec>, NoMemory> {
-    let mut suspects = Vec::new(alloc);
-    if let Some(Refuted::NoWriter(no)) = unexplained.evidence {
-        if let Some(get) = subject.records.iter().find(|record| record.no == no) {
-            suspects.push(*get)?;
+) -> Result<bool, NoMemory> {
+    let reported = get_without_writer(unexplained.reported, &subject.all);
+    let evident = get_without_writer(unexplained.evidence, &subject.records);
+    let reason = subject
+        .reason
+        .as_ref()
+        .and_then(|reason| reason.unwritten());
+    match reported.or(evident).or(reason) {
+        Some(get) => add_hidden_write(draft, &get, &subject.all, unexplained.conflicts),
+        None => Ok(false),
+    }
+}
+
+// Asks whether a line was written late, if it seems so by one of the calls whose replies show the versions that the
+// reason mentions. Returns whether it does.
+fn add_late_of(draft: &mut Draft<'_>, reason: &Reason, records: &[Rec]) -> Result<bool, NoMemory> {
+    if let Some(shower) = &reason.shower {
+        if add_late_line(draft, shower, records)? {
+            return Ok(true);
         }
     }
-    if let Some(reason) = &subject.reason {
-        suspects.extend_from_slice(reason.showers(alloc)?.as_slice())?;
+    for link in reason.links.iter() {
+        if add_late_line(draft, &link.record, records)? {
+            return Ok(true);
+        }
     }
-    Ok(suspects)
+    Ok(false)
 }
 
 // Asks whether a line was written late, if it seems so.
 fn add_late(
-    alloc: Global,
+    draft: &mut Draft<'_>,
     unexplained: &Unexplained<'_>,
     subject: &Subject<'_>,
-    lines: &EventLines,
-    parts: &mut Vec<Part>,
 ) -> Result<(), NoMemory> {
-    for get in suspects_of(alloc, unexplained, subject)?.iter() {
-        if let Some(words) = late_words(alloc, get, &subject.records, lines)? {
-            parts.push(Part::Paragraph(words))?;
+    if let Some(get) = get_without_writer(unexplained.evidence, &subject.records) {
+        if add_late_line(draft, &get, &subject.all)? {
             return Ok(());
         }
+    }
+    if let Some(reason) = &subject.reason {
+        add_late_of(draft, reason, &subject.all)?;
+    }
+    Ok(())
+}
+
+// Adds the reasons of each document, and what may make them look wrong. The history is checked with conflicts read
+// otherwise at most once.
+fn add_subjects<'h, S: OrderSearch>(
+    draft: &mut Draft<'_>,
+    unexplained: &Unexplained<'h>,
+    subjects: &[Subject<'h>],
+    search: &S,
+) -> Result<(), NoMemory> {
+    let mut is_checked = false;
+    for subject in subjects {
+        add_late(draft, unexplained, subject)?;
+        if add_hidden(draft, unexplained, subject)? && !is_checked {
+            is_checked = true;
+            add_other_reading(draft, unexplained.whole, search)?;
+        }
+        add_subject(draft, unexplained, subject, subjects.len() > 1)?;
     }
     Ok(())
 }
 
 /// Adds why no order can have the replies, if it is known: by evidence, and for each document that is ruled
-/// out.
-pub fn add_why(
-    alloc: Global,
-    unexplained: &Unexplained<'_>,
-    subjects: &[Subject<'_>],
-    lines: &EventLines,
-    parts: &mut Vec<Part>,
+/// out; then which calls the first line names, if these are others.
+pub fn add_why<'h, S: OrderSearch>(
+    draft: &mut Draft<'_>,
+    unexplained: &Unexplained<'h>,
+    subjects: &[Subject<'h>],
+    search: &S,
 ) -> Result<(), NoMemory> {
-    let reported = match unexplained.evidence {
-        Some(evidence) => evidence_words(
-            alloc,
-            unexplained.history,
-            lines,
-            evidence,
-            unexplained.conflicts,
-        )?,
-        None => None,
-    };
+    let reported = evidence_words(draft, unexplained)?;
     if reported.is_none() && !subjects.iter().any(|subject| subject.reason.is_some()) {
         return Ok(());
     }
-    parts.push(Part::Heading("Why no order can have these replies"))?;
-    add_other_document(alloc, unexplained, subjects, parts)?;
+    draft.heading("Why no order can have these replies")?;
+    add_other_document(draft, unexplained, subjects)?;
     if let Some(words) = reported {
-        parts.push(Part::Paragraph(words))?;
+        draft.add(Block::Paragraph(words))?;
     }
-    for subject in subjects {
-        add_late(alloc, unexplained, subject, lines, parts)?;
-        add_hidden(alloc, unexplained, subject, lines, parts)?;
-        add_subject(
-            alloc,
-            unexplained,
-            subject,
-            subjects.len() > 1,
-            lines,
-            parts,
-        )?;
-    }
-    Ok(())
+    add_subjects(draft, unexplained, subjects, search)?;
+    add_reported_calls(draft, unexplained)
 }

@@ -16,11 +16,10 @@ pub struct Window {
     pub records: Vec<Rec>,
 }
 
-// Where a window begins: at which record, after how many answered calls, and after which write.
+// Where a window begins: at which record, and after which write.
 #[derive(Clone, Copy)]
 struct Start {
     at: usize,
-    answered: usize,
     last: Option<Rec>,
 }
 
@@ -38,18 +37,12 @@ fn with_greater_pair(last: Option<Rec>, record: Rec) -> Option<Rec> {
 
 // Returns the last start of a window that has at least that many calls, if one is found.
 fn start_of(records: &[Rec], event: usize, conflicts: Conflicts, least: usize) -> Start {
-    let mut start = Start {
-        at: 0,
-        answered: 0,
-        last: None,
-    };
+    let mut start = Start { at: 0, last: None };
     let mut next = start;
     let mut open_until = 0usize;
-    for (i, record) in records
-        .iter()
-        .take(records.len().saturating_sub(least))
-        .enumerate()
-    {
+    // If there are no more calls than that, the window begins at the first.
+    let most = records.len().saturating_sub(least);
+    for (i, record) in records[..most].iter().enumerate() {
         if open_until < record.call_at {
             next.at = i;
             start = next;
@@ -60,7 +53,6 @@ fn start_of(records: &[Rec], event: usize, conflicts: Conflicts, least: usize) -
         }
         if let Some(place) = known.heard.map(|heard| heard.0) {
             open_until = open_until.max(place);
-            next.answered = next.answered.saturating_add(1);
         }
         next.last = with_greater_pair(next.last, known);
     }
@@ -89,10 +81,12 @@ pub fn window_before(
     least: usize,
 ) -> Result<Window, NoMemory> {
     let count = records.partition_point(|record| record.call_at < event);
-    let called = records.get(..count).unwrap_or(records);
+    let called = &records[..count];
     let start = start_of(called, event, conflicts, least);
+    let before = called.iter().take(start.at);
+    let answered = before.filter(|record| record.known_before(event).heard.is_some());
     let mut window = Window {
-        answered_before: start.answered,
+        answered_before: answered.count(),
         is_prefixed: false,
         records: Vec::new(alloc),
     };

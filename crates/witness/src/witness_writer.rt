@@ -10,8 +10,9 @@ ghost use Rattle.witness.specs.aids.Lines.{IsWrittenOn};
 ghost use Rattle.witness.specs.declared.witness_line.WitnessLine.TheVariants as line;
 ghost use Rattle.witness.specs.Text.{AreWithinLimits, said_by, value_of, witness_text, written};
 
+use api_lines::LineObject;
 use places::{DocWitness, Place};
-use serde_json::{Value, json};
+use serde_json::Value;
 use std::alloc::Global;
 use version_pair::{DocId, NoMemory};
 
@@ -20,21 +21,20 @@ fn document_value(alloc: Global, id: &DocId) -> Result<Value, NoMemory>
     ensures value { IfOk result (λ value. view value ≡ value_of (line.Document id.now)) }
     ensures id { IsIdLength (length id.now) }
 {
-    let name = id.as_str();
-    json!(in alloc; {"doc": name})
+    let line = LineObject::new(alloc).text("doc", id.as_str())?;
+    Ok(line.into_value())
 }
 
 // The value of a place's line.
 fn place_value(alloc: Global, place: Place) -> Result<Value, NoMemory>
     ensures { IfOk result (λ value. view value ≡ value_of (line.Place place)) }
 {
-    let rec = place.rec;
+    let line = LineObject::new(alloc).number("rec", place.rec as u64)?;
     match place.pair {
-        None => json!(in alloc; {"rec": rec}),
+        None => Ok(line.into_value()),
         Some(pair) => {
-            let seq = pair.seq();
-            let term = pair.term();
-            json!(in alloc; {"rec": rec, "seq": seq, "term": term})
+            let line = line.number("seq", pair.seq())?.number("term", pair.term())?;
+            Ok(line.into_value())
         }
     }
 }

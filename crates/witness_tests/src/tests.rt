@@ -1,3 +1,2 @@
 mod lines;
-mod notation;
 mod valid_places;

@@ -1,5 +1,6 @@
+mod at_once;
 mod eight_threads;
+mod faults;
 mod plan;
-mod rounds;
-mod running;
+mod recorded;
 mod testing;

@@ -26,6 +26,15 @@ body_with name d body =
     else (if bytes_eq name (codes "error") then record body { error_type = field (codes "type") d }
     else body_field_put name (field_value (Some d)) body)
 
+-- a line's fields with this one at the key of this name, which is that of a condition, a shard or a status
+abbrev pub rare_field_put : List ℕ → FieldValue → LineValues → LineValues
+rare_field_put name f line =
+    if bytes_eq name (codes "if_seq_no") then record line { if_seq_no = f }
+    else (if bytes_eq name (codes "if_primary_term") then record line { if_primary_term = f }
+    else (if bytes_eq name (codes "shard") then record line { shard = f }
+    else (if bytes_eq name (codes "status") then record line { status = f }
+    else line)))
+
 -- a line's fields with this one at the key of this name; those of `body` are not included
 abbrev pub line_field_put : List ℕ → FieldValue → LineValues → LineValues
 line_field_put name f line =
@@ -34,11 +43,7 @@ line_field_put name f line =
     else (if bytes_eq name (codes "id") then record line { id = f }
     else (if bytes_eq name (codes "op") then record line { op = f }
     else (if bytes_eq name (codes "k") then record line { k = f }
-    else (if bytes_eq name (codes "if_seq_no") then record line { if_seq_no = f }
-    else (if bytes_eq name (codes "if_primary_term") then record line { if_primary_term = f }
-    else (if bytes_eq name (codes "shard") then record line { shard = f }
-    else (if bytes_eq name (codes "status") then record line { status = f }
-    else line))))))))
+    else rare_field_put name f line))))
 
 -- a line's fields after a member
 abbrev pub line_with : List ℕ → Data → LineValues → LineValues

@@ -1,3 +1,6 @@
+ghost use Rattle.std.specs.Prelude.{◌<◌, length};
+
+use events::Rec;
 use std::alloc::Global;
 use version_pair::NoMemory;
 
@@ -6,34 +9,25 @@ use version_pair::NoMemory;
 #[derive(Drop)]
 pub struct Failed {
     slots: Vec<u64>,
+    ghost has_some: { 0 < length slots.items },
 }
 
 impl Failed {
     /// Returns the value without any point, with room for about one per record.
-    pub fn of(alloc: Global, records: usize) -> Result<Failed, NoMemory> {
-        let slots = records.saturating_add(1024);
+    pub fn of(alloc: Global, records: &[Rec]) -> Result<Failed, NoMemory> {
         Ok(Failed {
-            slots: vec![in alloc; 0; slots]?,
+            slots: vec![in alloc; 0; records.len() + 1024]?,
         })
-    }
-
-    // The slot of a key.
-    fn slot(&self, key: u64) -> usize {
-        let slots = u64::try_from(self.slots.len()).unwrap_or(u64::MAX);
-        let slot = key.checked_rem(slots).unwrap_or(0);
-        usize::try_from(slot).unwrap_or(0)
     }
 
     /// Adds a point.
     pub fn note(&mut self, key: u64) {
-        let slot = self.slot(key);
-        if let Some(entry) = self.slots.get_mut(slot) {
-            *entry = key;
-        }
+        let slot = key as usize % self.slots.len();
+        self.slots[slot] = key;
     }
 
     /// Returns whether the point was left without success.
     pub fn has(&self, key: u64) -> bool {
-        self.slots.get(self.slot(key)) == Some(&key)
+        self.slots[key as usize % self.slots.len()] == key
     }
 }

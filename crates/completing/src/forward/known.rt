@@ -1,6 +1,9 @@
-use crate::forward::numbers::Numbers;
-use crate::near::{HasPair, place_near};
-use doc_register::{Op, Reply};
+ghost use Rattle.std.specs.Prelude.{◌<◌, ◌^◌, IfSome};
+
+use crate::forward::numbers::WritesByNumber;
+use crate::near::{HasPair, find, find_near};
+use crate::per_record::record;
+use doc_register::Reply;
 use events::Rec;
 use std::alloc::Global;
 use version_pair::{NoMemory, Pair};
@@ -8,12 +11,14 @@ use write_chain::sort_nearly_ordered;
 
 /// A pair that some write must have.
 #[derive(Clone, Copy)]
-pub struct Known {
+pub struct KnownPair {
     pub pair: Pair,
     /// The answered write that has it.
     pub writer: Option<usize>,
     /// The number that it was written with, if that is known.
     pub number: Option<u64>,
+    /// How many writes may be inserted before it.
+    pub room: u64,
 }
 
 /// The pairs that some write must have, rising: those of the performed answered writes, those that their
@@ -21,100 +26,118 @@ pub struct Known {
 /// that other conditions name.
 #[derive(Drop)]
 pub struct KnownPairs {
-    entries: Vec<Known>,
-    // The pairs that conditions name and that no write is known to have, rising.
-    named: Vec<Pair>,
+    pub entries: Vec<KnownPair>,
+    /// The pairs that conditions name and that no write is known to have, rising.
+    pub named: Vec<Pair>,
 }
 
-impl HasPair for Known {
+// How a record shows a pair.
+#[derive(Clone, Copy, PartialEq, Eq, PartialOrd, Ord)]
+enum ShownBy {
+    // It is the answered write that has the pair, with this number.
+    Write(Option<u64>),
+    // It is a get that found the pair with this number.
+    Get(u64),
+    // Its condition names the pair.
+    Condition,
+}
+
+// A pair that a record shows.
+#[derive(Clone, Copy, PartialEq, Eq, PartialOrd, Ord)]
+struct ShownPair {
+    pair: Pair,
+    rec: usize,
+    by: ShownBy,
+}
+
+impl HasPair for KnownPair {
     fn pair(&self) -> Pair {
         self.pair
     }
 }
 
+impl ShownBy {
+    // How the record shows the pair.
+    fn of(found: Rec, pair: Pair) -> ShownBy {
+        if found.pair_taken() == Some(pair) {
+            return ShownBy::Write(found.op.value());
+        }
+        match found.heard {
+            Some((_, Reply::Found { pair: own, k })) if own == pair => ShownBy::Get(k),
+            _ => ShownBy::Condition,
+        }
+    }
+}
+
+// Adds a pair that the record shows.
+fn note_pair(
+    shown: &mut Vec<ShownPair>,
+    rec: usize,
+    found: Rec,
+    pair: Pair,
+) -> Result<(), NoMemory> {
+    shown.push(ShownPair {
+        pair,
+        rec,
+        by: ShownBy::of(found, pair),
+    })?;
+    Ok(())
+}
+
 // Adds the pairs that the record makes known.
-fn note_pairs(shown: &mut Vec<(Pair, usize)>, rec: usize, found: Rec) -> Result<(), NoMemory> {
+fn note_pairs(shown: &mut Vec<ShownPair>, rec: usize, found: Rec) -> Result<(), NoMemory> {
     if let Some(pair) = found.pair_taken() {
-        shown.push((pair, rec))?;
+        note_pair(shown, rec, found, pair)?;
         if let Some(named) = found.op.condition() {
-            shown.push((named, rec))?;
+            note_pair(shown, rec, found, named)?;
         }
     }
     if let Some((_, Reply::Found { pair, .. })) = found.heard {
-        shown.push((pair, rec))?;
+        note_pair(shown, rec, found, pair)?;
     }
     Ok(())
 }
 
-// The pair that the only unanswered write asks for that can have the known pair, and that write.
-fn asked_for(entry: Known, records: &[Rec], numbers: &Numbers) -> Option<(Pair, usize)> {
-    if entry.writer.is_some() {
-        return None;
-    }
-    let rec = numbers.only(entry.number?)?;
-    Some((records.get(rec)?.op.condition()?, rec))
-}
-
-impl Known {
-    // Sets the answered write that has the pair. Returns `false` if another one has it.
-    fn note_writer(&mut self, rec: usize, op: Op) -> bool {
-        if self.writer.is_some() {
-            return false;
-        }
-        self.writer = Some(rec);
-        self.number = op.value();
-        true
-    }
-
-    // Sets the number that a get found with the pair, after the answered write. Returns `false` if the pair
-    // has another number, or none.
-    fn note_number(&mut self, k: u64) -> bool {
-        if self.writer.is_none() && self.number.is_none() {
-            self.number = Some(k);
-        }
-        self.number == Some(k)
-    }
-
-    // What the records of one pair, those from one index to another, show of it. `None` if they contradict
-    // each other.
-    fn of_pair(
-        records: &[Rec],
-        shown: &[(Pair, usize)],
-        start: usize,
-        end: usize,
-    ) -> Option<Known> {
-        let mut known = Known {
-            pair: shown.get(start)?.0,
-            writer: None,
-            number: None,
-        };
-        for i in start..end {
-            let (pair, rec) = *shown.get(i)?;
-            let found = *records.get(rec)?;
-            if found.pair_taken() == Some(pair) && !known.note_writer(rec, found.op) {
-                return None;
-            }
-        }
-        for i in start..end {
-            let (own, rec) = *shown.get(i)?;
-            if let Some((_, Reply::Found { pair, k })) = records.get(rec)?.heard {
-                if pair == own && !known.note_number(k) {
-                    return None;
+impl KnownPair {
+    // Adds what a record shows of the pair. Returns `false` if it contradicts the others: another write has
+    // the pair, or it has another number, or none.
+    fn note(&mut self, shown: ShownPair) -> bool {
+        match shown.by {
+            ShownBy::Write(number) => {
+                if self.writer.is_some() || self.number.is_some() && self.number != number {
+                    return false;
                 }
+                self.writer = Some(shown.rec);
+                self.number = number;
+                true
             }
+            ShownBy::Get(k) => {
+                if self.writer.is_none() && self.number.is_none() {
+                    self.number = Some(k);
+                }
+                self.number == Some(k)
+            }
+            ShownBy::Condition => true,
         }
-        Some(known)
     }
-}
 
-// The end of the entries of the pair at an index.
-fn end_of_pair(shown: &[(Pair, usize)], start: usize) -> usize {
-    for i in start..shown.len() {
-        if shown[i].0 != shown[start].0 {
-            return i;
+    /// Returns the only write that can have the pair, if no answered write has it.
+    pub fn only_writer(&self, numbers: &WritesByNumber) -> Option<usize> {
+        match self.writer {
+            Some(_) => None,
+            None => numbers.only(self.number?),
         }
     }
-    shown.len()
+
+    // The pair that the only unanswered write asks for that can have this one, and that write.
+    fn asked(&self, records: &[Rec], numbers: &WritesByNumber) -> Option<ShownPair> {
+        let rec = self.only_writer(numbers)?;
+        Some(ShownPair {
+            pair: record(records, rec)?.op.condition()?,
+            rec,
+            by: ShownBy::Condition,
+        })
+    }
 }
 
 impl KnownPairs {
@@ -123,7 +146,7 @@ impl KnownPairs {
     pub fn of(
         alloc: Global,
         records: &[Rec],
-        numbers: &Numbers,
+        numbers: &WritesByNumber,
     ) -> Result<Option<KnownPairs>, NoMemory> {
         let mut shown = Vec::with_capacity(alloc, records.len())?;
         for rec in 0..records.len() {
@@ -146,41 +169,53 @@ impl KnownPairs {
     fn of_shown(
         alloc: Global,
         records: &[Rec],
-        shown: &[(Pair, usize)],
+        shown: &[ShownPair],
     ) -> Result<Option<KnownPairs>, NoMemory> {
         let mut known = KnownPairs {
             entries: Vec::with_capacity(alloc, shown.len())?,
             named: Vec::new(alloc),
         };
-        let mut start = 0;
-        for _ in 0..shown.len() {
-            if start >= shown.len() {
-                break;
-            }
-            let end = end_of_pair(shown, start);
-            let Some(entry) = Known::of_pair(records, shown, start, end) else {
+        for next in shown {
+            if !known.note(*next)? {
                 return Ok(None);
-            };
-            known.entries.push(entry)?;
-            start = end;
+            }
         }
         known.note_named(records)?;
         Ok(Some(known))
+    }
+
+    // Adds what a record shows of a pair, after all that is shown of lesser pairs. Returns `false` if records
+    // contradict each other.
+    fn note(&mut self, shown: ShownPair) -> Result<bool, NoMemory> {
+        if let Some(last) = self.entries.last_mut() {
+            if last.pair == shown.pair {
+                return Ok(last.note(shown));
+            }
+        }
+        let mut known = KnownPair {
+            pair: shown.pair,
+            writer: None,
+            number: None,
+            room: u64::MAX,
+        };
+        let agrees = known.note(shown);
+        self.entries.push(known)?;
+        Ok(agrees)
     }
 
     // Adds the pairs that unanswered writes which must be performed ask for: each such write is the only one
     // with the number of a known pair that no answered write has. Returns whether one was added.
     fn note_asked(
         &self,
-        shown: &mut Vec<(Pair, usize)>,
+        shown: &mut Vec<ShownPair>,
         records: &[Rec],
-        numbers: &Numbers,
+        numbers: &WritesByNumber,
     ) -> Result<bool, NoMemory> {
         let mut is_new = false;
         for entry in &self.entries {
-            if let Some((pair, rec)) = asked_for(*entry, records, numbers) {
-                if self.place_of(pair).is_none() {
-                    shown.push((pair, rec))?;
+            if let Some(asked) = entry.asked(records, numbers) {
+                if find(&self.entries, asked.pair).is_none() {
+                    shown.push(asked)?;
                     is_new = true;
                 }
             }
@@ -203,57 +238,27 @@ impl KnownPairs {
         Ok(())
     }
 
-    /// Returns the number of known pairs.
-    pub fn len(&self) -> usize {
-        self.entries.len()
-    }
-
-    /// Returns the known pair at an index of their order.
-    pub fn get(&self, at: usize) -> Option<Known> {
+    /// Returns the known pair at an index of their order; `None` after the last one.
+    pub fn entry(&self, at: usize) -> Option<KnownPair>
+        ensures { IfSome result (λ _. at < 2 ^ 63) }
+    {
         self.entries.get(at).copied()
     }
 
-    /// Returns a pair that conditions name and no write is known to have, by its index among them.
-    pub fn named(&self, at: usize) -> Option<Pair> {
-        self.named.get(at).copied()
-    }
-
-    /// Returns the index of the first of these that is not below a pair.
+    /// Returns the index of the first of the named pairs that is not below a pair.
     pub fn first_named(&self, from: Pair) -> usize {
         self.named.partition_point(|pair| *pair < from)
     }
 
-    /// Returns the number of pairs that conditions name and no write is known to have.
-    pub fn named_len(&self) -> usize {
-        self.named.len()
-    }
-
-    /// Returns the index of a pair among those that conditions name and no write is known to have.
+    /// Returns the index of a pair among the named ones.
     pub fn named_place(&self, pair: Pair) -> Option<usize> {
         self.named.binary_search(&pair).ok()
-    }
-
-    // The index, if it is that of the pair.
-    fn place_at(&self, place: usize, pair: Pair) -> Option<usize> {
-        if self.entries.get(place)?.pair == pair {
-            Some(place)
-        } else {
-            None
-        }
     }
 
     /// Returns the index of a pair, if it is known. It is searched for near another index first, which
     /// becomes that of the pair.
     pub fn place_near(&self, pair: Pair, near: &mut usize) -> Option<usize> {
-        *near = place_near(&self.entries, pair, *near);
-        self.place_at(*near, pair)
-    }
-
-    // The index of a pair, if it is known.
-    fn place_of(&self, pair: Pair) -> Option<usize> {
-        self.place_at(
-            self.entries.partition_point(|entry| entry.pair < pair),
-            pair,
-        )
+        find_near(&self.entries, pair, near)?;
+        Some(*near)
     }
 }

@@ -1,14 +1,14 @@
-use crate::forward::kind::{Kind, kinds_of};
-use crate::forward::known::KnownPairs;
+use crate::forward::known::{KnownPair, KnownPairs};
 use crate::forward::lines::Lines;
-use crate::forward::numbers::Numbers;
-use crate::forward::rooms::rooms;
-use crate::forward::standing::{Document, Standing, mark_of, mix};
+use crate::forward::numbers::{ConflictOrder, WritesByNumber, number_of};
+use crate::forward::rooms::set_rooms;
+use crate::forward::state::{Document, SearchState, mark_of, mix};
+use crate::forward::wait_kind::{WaitKind, kinds_of};
 use crate::free::Free;
 use crate::limit::Limit;
-use crate::rules::by_number::number_of;
-use crate::rules::link::leaves_it;
-use crate::rules::queue::is_left;
+use crate::per_record::{PerRecord, record};
+use crate::rules::chain_write::leaves_it;
+use crate::rules::queue::first_left;
 use crate::timed::Timed;
 use doc_register::{Conflicts, Op};
 use events::Rec;
@@ -21,8 +21,8 @@ use write_chain::sort_nearly_ordered;
 pub enum Placed {
     /// It is a read, or is refused.
     Read(usize),
-    /// A write with the known pair.
-    Known(usize, usize),
+    /// A write with a known pair, given with its index.
+    Known { rec: usize, at: usize, pair: Pair },
     /// A write with an invented pair: the pair, if it is between two pairs of one term.
     Inserted(usize, Option<Pair>),
     /// Such a write, which was placed before as one that is refused.
@@ -34,7 +34,7 @@ impl Placed {
     pub fn rec(self) -> usize {
         match self {
             Placed::Read(rec)
-            | Placed::Known(rec, _)
+            | Placed::Known { rec, .. }
             | Placed::Inserted(rec, _)
             | Placed::Turned(rec, _) => rec,
         }
@@ -43,28 +43,26 @@ impl Placed {
 
 /// A walk forward in time over a document's records.
 #[derive(Drop)]
-pub struct Walk<'a> {
+pub struct ForwardWalk<'a> {
     pub records: &'a [Rec],
     pub conflicts: Conflicts,
     pub known: KnownPairs,
-    pub numbers: Numbers,
-    pub lines: Lines,
-    kinds: Vec<Option<Kind>>,
-    // For each known pair, how many writes may be inserted before it.
-    rooms: Vec<u64>,
+    pub numbers: WritesByNumber,
+    lines: Lines,
+    kinds: PerRecord<Option<WaitKind>>,
     /// The pairs that no document of the shard is known to use.
     pub free: Free<'a>,
     // The answered records in response order.
     replies: Vec<Timed>,
     // The conflicts on pairs in the order of their calls.
     conflicts_by_call: Vec<Timed>,
-    pub placed: Vec<bool>,
+    pub placed: PerRecord<bool>,
     // The conflicts that were placed as refused and are writes after all.
-    turned: Vec<bool>,
+    turned: PerRecord<bool>,
     pub order: Vec<Placed>,
-    pub standing: Standing,
-    /// The number of records that were placed, including those that were taken back.
-    pub steps: usize,
+    pub state: SearchState,
+    /// How many records may still be placed, those that are taken back included.
+    pub steps_left: usize,
 }
 
 // The answered records in response order.
@@ -83,12 +81,12 @@ fn by_reply(alloc: Global, records: &[Rec]) -> Result<Vec<Timed>, NoMemory> {
 fn conflicts_by_call(
     alloc: Global,
     records: &[Rec],
-    kinds: &[Option<Kind>],
+    kinds: &PerRecord<Option<WaitKind>>,
 ) -> Result<Vec<Timed>, NoMemory> {
     let mut conflicts = Vec::new(alloc);
     for rec in 0..records.len() {
-        match kinds.get(rec) {
-            Some(Some(kind)) if kind.is_conflict_on_pair() => {
+        match kinds.of(rec) {
+            Some(kind) if kind.is_conflict_on_pair() => {
                 conflicts.push(Timed {
                     at: records[rec].call_at,
                     rec,
@@ -100,51 +98,56 @@ fn conflicts_by_call(
     Ok(conflicts)
 }
 
-// Sets a mark of a record.
-fn set(marks: &mut [bool], rec: usize, to: bool) {
-    if let Some(mark) = marks.get_mut(rec) {
-        *mark = to;
-    }
-}
-
-impl Walk<'_> {
-    /// Returns a walk before its first step, or `None` if the records contradict each other.
+impl ForwardWalk<'_> {
+    /// Returns a walk before its first step, which may place so many records, or `None` if the records
+    /// contradict each other.
     pub fn of<'a>(
         alloc: Global,
         records: &'a [Rec],
         conflicts: Conflicts,
         used: &'a [Pair],
         limits: &[Limit],
-    ) -> Result<Option<Walk<'a>>, NoMemory> {
-        let numbers = Numbers::of(alloc, records, conflicts)?;
-        let Some(known) = KnownPairs::of(alloc, records, &numbers)? else {
+        steps: usize,
+    ) -> Result<Option<ForwardWalk<'a>>, NoMemory> {
+        let numbers = WritesByNumber::of(alloc, records, conflicts, ConflictOrder::ByCall)?;
+        let Some(mut known) = KnownPairs::of(alloc, records, &numbers)? else {
             return Ok(None);
         };
         let kinds = kinds_of(alloc, records, &known, &numbers)?;
         let free = Free::among(used);
-        let rooms = rooms(alloc, &known, free, limits)?;
-        Ok(Some(Walk {
+        set_rooms(&mut known, free, limits);
+        Ok(Some(ForwardWalk {
             records,
             conflicts,
-            lines: Lines::of(alloc, records, &kinds, known.len(), known.named_len())?,
+            lines: Lines::of_kinds(
+                alloc,
+                records,
+                &kinds,
+                known.entries.len(),
+                known.named.len(),
+            )?,
             replies: by_reply(alloc, records)?,
             conflicts_by_call: conflicts_by_call(alloc, records, &kinds)?,
-            placed: vec![in alloc; false; records.len()]?,
-            turned: vec![in alloc; false; records.len()]?,
+            placed: PerRecord::new(alloc, records, false)?,
+            turned: PerRecord::new(alloc, records, false)?,
             order: Vec::with_capacity(alloc, records.len())?,
-            standing: Standing::start(),
-            steps: 0,
+            state: SearchState::start(),
+            steps_left: steps,
             known,
             numbers,
             kinds,
-            rooms,
             free,
         }))
     }
 
     /// Returns the record with the number.
     pub fn record(&self, rec: usize) -> Option<Rec> {
-        self.records.get(rec).copied()
+        record(self.records, rec)
+    }
+
+    /// Returns the next known pair, if one is left.
+    pub fn next_known(&self) -> Option<KnownPair> {
+        self.known.entry(self.state.passed)
     }
 
     /// Returns the index of the first reply of the answered records that are left: what is placed must be
@@ -155,40 +158,65 @@ impl Walk<'_> {
 
     /// Returns the index of the first reply of the answered records that are left, if any is left.
     pub fn next_reply(&self) -> Option<usize> {
-        self.replies
-            .get(self.standing.replies)
-            .map(|entry| entry.at)
+        self.replies.get(self.state.replies).map(|entry| entry.at)
     }
 
     /// Returns whether all answered records are placed.
     pub fn is_done(&self) -> bool {
-        self.standing.replies >= self.replies.len()
+        self.state.replies >= self.replies.len()
     }
 
     /// Returns whether the record is left and may be placed.
     pub fn may_be_placed(&self, rec: usize) -> bool {
         match self.record(rec) {
-            Some(found) => is_left(&self.placed, rec) && found.call_at < self.limit(),
+            Some(found) => !self.placed.of(rec) && found.call_at < self.limit(),
             None => false,
         }
     }
 
+    // The line of the records of the kind.
+    fn line(&self, kind: WaitKind) -> Option<usize> {
+        kind.line(self.known.entries.len())
+    }
+
     /// Returns the first record of the kind that may be placed.
-    pub fn first(&mut self, kind: Kind) -> Option<usize> {
-        let limit = self.limit();
-        self.lines.first(kind, &self.placed, limit)
+    pub fn first(&mut self, kind: WaitKind) -> Option<usize> {
+        let line = self.line(kind)?;
+        match self.lines.first(line, &self.placed) {
+            Some(entry) if entry.at < self.limit() => Some(entry.rec),
+            _ => None,
+        }
     }
 
-    /// Returns the first record of the kind that is left, whether it may be placed here or not.
-    pub fn first_of_all(&mut self, kind: Kind) -> Option<usize> {
-        self.lines.first(kind, &self.placed, usize::MAX)
+    /// Returns whether a record of the kind is left, whether it may be placed here or not.
+    pub fn is_left(&mut self, kind: WaitKind) -> bool {
+        match self.line(kind) {
+            Some(line) => self.lines.first(line, &self.placed).is_some(),
+            None => false,
+        }
     }
 
-    /// Returns how many writes may be inserted before the next known pair.
+    /// Returns the records of the kind, without some of those that were placed.
+    pub fn waiting(&self, kind: WaitKind) -> &[Timed] {
+        match self.line(kind) {
+            Some(line) => self.lines.waiting(line),
+            None => &[],
+        }
+    }
+
+    /// Returns the records of the kind.
+    pub fn all(&self, kind: WaitKind) -> &[Timed] {
+        match self.line(kind) {
+            Some(line) => self.lines.all(line),
+            None => &[],
+        }
+    }
+
+    /// Returns how many more writes may be inserted before the next known pair: not below zero.
     pub fn room(&self) -> u64 {
-        let room = match self.rooms.get(self.standing.passed) {
-            Some(room) => room.saturating_sub(self.standing.inserted),
-            None => 0,
+        let room = match self.next_known() {
+            Some(next) => next.room.saturating_sub(self.state.inserted),
+            None => u64::MAX - self.state.inserted,
         };
         match self.gap() {
             Some(gap) => room.min(self.free.count(gap.from, gap.upper)),
@@ -198,24 +226,17 @@ impl Walk<'_> {
 
     // Passes over the replies of what is placed.
     fn pass_replies(&mut self) {
-        for i in self.standing.replies..self.replies.len() {
-            match self.replies.get(i) {
-                Some(entry) if !is_left(&self.placed, entry.rec) => {
-                    self.standing.replies = i.saturating_add(1);
-                }
-                _ => return,
-            }
-        }
+        self.state.replies = first_left(&self.replies, self.state.replies, &self.placed);
     }
 
-    // Places a record.
+    // Places a record. (If no step is left, the number of those that are stays zero.)
     fn place(&mut self, placed: Placed) -> Result<(), NoMemory> {
         self.order.push(placed)?;
         self.set(placed, true);
-        self.steps = self.steps.saturating_add(1);
-        self.standing.mark ^= self.mark(placed);
+        self.steps_left = self.steps_left.saturating_sub(1);
+        self.state.mark ^= self.mark(placed);
         if let Some(found) = self.record(placed.rec()) {
-            self.standing.latest = self.standing.latest.max(found.call_at);
+            self.state.latest = self.state.latest.max(found.call_at);
         }
         Ok(())
     }
@@ -224,9 +245,9 @@ impl Walk<'_> {
     // adds nothing: it is of no use after that pair.
     fn mark(&self, placed: Placed) -> u64 {
         let rec = placed.rec();
-        match (placed, self.kinds.get(rec)) {
+        match (placed, self.kinds.of(rec)) {
             (Placed::Turned(..), _) => mix(mark_of(rec)),
-            (_, Some(Some(kind))) if kind.is_lost_on_pair() => 0,
+            (_, Some(kind)) if kind.is_lost_on_pair() => 0,
             _ => mark_of(rec),
         }
     }
@@ -234,14 +255,14 @@ impl Walk<'_> {
     // Records that a record is placed, or is not.
     fn set(&mut self, placed: Placed, is_placed: bool) {
         if let Placed::Turned(rec, _) = placed {
-            set(&mut self.turned, rec, is_placed);
+            self.turned.set(rec, is_placed);
         } else {
-            set(&mut self.placed, placed.rec(), is_placed);
+            self.placed.set(placed.rec(), is_placed);
         }
     }
 
     // Places the records of a kind that may be placed, as reads.
-    fn place_all(&mut self, kind: Kind) -> Result<(), NoMemory> {
+    fn place_all(&mut self, kind: WaitKind) -> Result<(), NoMemory> {
         for _ in 0..self.records.len() {
             match self.first(kind) {
                 Some(rec) => self.place(Placed::Read(rec))?,
@@ -253,12 +274,27 @@ impl Walk<'_> {
 
     // Whether the record is a conflict on the pair that the document has.
     fn is_on_present(&self, rec: usize) -> bool {
-        match (self.kinds.get(rec), self.standing.document) {
-            (Some(Some(Kind::ConflictOn(at))), Document::Known(present)) => *at == present,
-            (Some(Some(Kind::ConflictOnNamed(at))), Document::Invented(present)) => {
-                Some(*at) == present
+        match (self.kinds.of(rec), self.state.document) {
+            (Some(WaitKind::ConflictOn(at)), Document::Known(present)) => at == present,
+            (Some(WaitKind::ConflictOnNamed(at)), Document::Invented(present)) => {
+                Some(at) == present
             }
             _ => false,
+        }
+    }
+
+    // The next conflict on a pair that was not met, if it is called before the index: now it is met.
+    fn meet_conflict(&mut self, limit: usize) -> Option<Timed> {
+        match self
+            .conflicts_by_call
+            .get(self.state.conflicts_met)
+            .copied()
+        {
+            Some(entry) if entry.at < limit => {
+                self.state.conflicts_met += 1;
+                Some(entry)
+            }
+            _ => None,
         }
     }
 
@@ -266,15 +302,12 @@ impl Walk<'_> {
     // before.
     fn place_conflicts(&mut self) -> Result<(), NoMemory> {
         let limit = self.limit();
-        for i in self.standing.conflicts_met..self.conflicts_by_call.len() {
-            match self.conflicts_by_call.get(i).copied() {
-                Some(entry) if entry.at < limit => {
-                    self.standing.conflicts_met = i.saturating_add(1);
-                    if is_left(&self.placed, entry.rec) && !self.is_on_present(entry.rec) {
-                        self.place(Placed::Read(entry.rec))?;
-                    }
-                }
-                _ => return Ok(()),
+        for _ in 0..self.conflicts_by_call.len() {
+            let Some(Timed { rec, .. }) = self.meet_conflict(limit) else {
+                return Ok(());
+            };
+            if !self.placed.of(rec) && !self.is_on_present(rec) {
+                self.place(Placed::Read(rec))?;
             }
         }
         Ok(())
@@ -283,20 +316,20 @@ impl Walk<'_> {
     // Places what the document allows.
     fn place_allowed(&mut self) -> Result<(), NoMemory> {
         self.pass_replies();
-        match self.standing.document {
-            Document::Absent => self.place_all(Kind::Missing)?,
+        match self.state.document {
+            Document::Absent => self.place_all(WaitKind::Missing)?,
             Document::Known(at) => {
-                self.place_all(Kind::Found(at))?;
-                self.place_all(Kind::CreateConflict)?;
+                self.place_all(WaitKind::Found(at))?;
+                self.place_all(WaitKind::CreateConflict)?;
             }
-            Document::Invented(_) => self.place_all(Kind::CreateConflict)?,
+            Document::Invented(_) => self.place_all(WaitKind::CreateConflict)?,
         }
         self.place_conflicts()
     }
 
     /// Places each read that may be placed, and each conflict that may be placed as one that was refused.
     pub fn place_reads(&mut self) -> Result<(), NoMemory> {
-        for _ in 0..self.records.len().saturating_add(1) {
+        for _ in 0..self.records.len() + 1 {
             let before = self.order.len();
             self.place_allowed()?;
             if self.order.len() == before {
@@ -321,7 +354,7 @@ impl Walk<'_> {
             None => false,
         };
         match write {
-            Placed::Known(_, at) if leaves_it => Document::Known(at),
+            Placed::Known { at, .. } if leaves_it => Document::Known(at),
             Placed::Inserted(_, pair) | Placed::Turned(_, pair) if leaves_it => self.invented(pair),
             _ => Document::Absent,
         }
@@ -336,44 +369,50 @@ impl Walk<'_> {
         }
     }
 
+    // Passes over the known pair at the index.
+    fn pass_known(&mut self, at: usize, pair: Pair) {
+        if self.known.entry(at).is_some() {
+            self.state.passed = at + 1;
+        }
+        self.state.inserted = 0;
+        self.state.budget = 0;
+        self.state.last = Some(pair);
+    }
+
     /// Performs a write, and places what waits for the end of the pair before it.
     pub fn perform(&mut self, write: Placed) -> Result<(), NoMemory> {
-        let before = self.standing.document;
+        let before = self.state.document;
         let write = self.with_pair(write);
         self.place(write)?;
-        self.standing.document = self.after(write);
+        self.state.document = self.after(write);
         match write {
-            Placed::Known(_, at) => {
-                self.standing.passed = at.saturating_add(1);
-                self.standing.inserted = 0;
-                self.standing.budget = 0;
-                self.standing.last = self.known.get(at).map(|known| known.pair);
-            }
+            Placed::Known { at, pair, .. } => self.pass_known(at, pair),
             Placed::Inserted(_, pair) | Placed::Turned(_, pair) => {
-                self.standing.inserted = self.standing.inserted.saturating_add(1);
+                // (Budgets are below the greatest number of all.)
+                self.state.inserted = self.state.inserted.saturating_add(1);
                 if pair.is_some() {
-                    self.standing.last = pair;
+                    self.state.last = pair;
                 }
             }
             Placed::Read(_) => {}
         }
         self.pass_replies();
         match before {
-            Document::Known(at) => self.place_all(Kind::ConflictOn(at)),
-            Document::Invented(Some(at)) => self.place_all(Kind::ConflictOnNamed(at)),
+            Document::Known(at) => self.place_all(WaitKind::ConflictOn(at)),
+            Document::Invented(Some(at)) => self.place_all(WaitKind::ConflictOnNamed(at)),
             Document::Invented(None) | Document::Absent => Ok(()),
         }
     }
 
     /// Takes back what was placed since a point: the state then, and how many records were placed.
-    pub fn take_back(&mut self, standing: Standing, placed: usize) {
+    pub fn take_back(&mut self, state: SearchState, placed: usize) {
         for _ in placed..self.order.len() {
             if let Some(last) = self.order.pop() {
                 self.set(last, false);
                 self.put_back(last.rec());
             }
         }
-        self.standing = standing;
+        self.state = state;
     }
 
     // Puts a record back where it waits.
@@ -381,11 +420,15 @@ impl Walk<'_> {
         let Some(found) = self.record(rec) else {
             return;
         };
-        if let Some(Some(kind)) = self.kinds.get(rec) {
-            self.lines.put_back(*kind, found.call_at, rec);
+        let left = Timed {
+            at: found.call_at,
+            rec,
+        };
+        if let Some(line) = self.kinds.of(rec).and_then(|kind| self.line(kind)) {
+            self.lines.put_back(line, left);
         }
         if let Some(k) = number_of(found, self.conflicts) {
-            self.numbers.put_back(k, found.call_at, rec);
+            self.numbers.put_back(k, left);
         }
     }
 
@@ -394,7 +437,7 @@ impl Walk<'_> {
     pub fn can_stand(&self, rec: usize) -> bool {
         match self.record(rec) {
             Some(found) => match found.heard {
-                Some(heard) => is_left(&self.turned, rec) && self.standing.latest < heard.0,
+                Some(heard) => !self.turned.of(rec) && self.state.latest < heard.0,
                 None => false,
             },
             None => false,
@@ -404,8 +447,8 @@ impl Walk<'_> {
     /// Returns whether it is one that can be performed on the document here: a create if the document is
     /// absent, a delete under the condition of the pair that it has.
     pub fn may_turn(&self, rec: usize) -> bool {
-        let is_performed = match self.standing.document {
-            Document::Absent => self.kinds.get(rec) == Some(&Some(Kind::CreateConflict)),
+        let is_performed = match self.state.document {
+            Document::Absent => self.kinds.of(rec) == Some(WaitKind::CreateConflict),
             _ => self.is_on_present(rec) && self.is_delete(rec),
         };
         is_performed && self.can_stand(rec)

@@ -1,7 +1,7 @@
-use crate::rules::link::is_conflict;
+use crate::rules::chain_write::is_conflict;
 use crate::rules::lost::Lost;
 use crate::rules::performing::perform;
-use crate::rules::plan::{Plan, Side};
+use crate::rules::plan::{InStretch, RoundPlan};
 use crate::rules::stand::Stand;
 use doc_register::{Conflicts, Op};
 use events::Rec;
@@ -12,7 +12,7 @@ use version_pair::NoMemory;
 // write still fits.
 fn serve(
     records: &[Rec],
-    plan: &mut Plan,
+    plan: &mut RoundPlan,
     lost: &mut Lost,
     found: Rec,
     reply_at: usize,
@@ -22,13 +22,13 @@ fn serve(
         Op::Get => (true, false),
         Op::Create { .. } => (false, true),
         Op::Index { .. } | Op::Delete { .. } => {
-            let next = plan.next_needs(stretch);
+            let next = plan.stretch(stretch).needs;
             (next != Some(true), next != Some(false))
         }
     };
-    let ask = plan.ask(records, stretch, delete, write, reply_at);
-    match lost.candidate(records, ask) {
-        Some(rec) => plan.insert(records, lost, stretch, Side::After, rec),
+    let ask = plan.ask(stretch, delete, write, reply_at);
+    match lost.candidate(ask) {
+        Some(rec) => plan.insert(records, lost, stretch, InStretch::After, rec),
         None => Ok(false),
     }
 }
@@ -39,33 +39,29 @@ fn serve(
 /// itself. Returns `None` if nothing is inserted.
 pub fn ask(
     records: &[Rec],
-    plan: &mut Plan,
+    plan: &mut RoundPlan,
     stand: &Stand,
     lost: &mut Lost,
     conflicts: Conflicts,
     bound: usize,
     rec: usize,
+    found: Rec,
+    reply_at: usize,
 ) -> Result<Option<usize>, NoMemory> {
-    let Some(found) = records.get(rec) else {
-        return Ok(None);
-    };
-    let Some(heard) = found.heard else {
-        return Ok(None);
-    };
     let stretch = match found.op.condition() {
         Some(pair) => stand.of_pair(pair),
         None => Some(bound),
     };
     if let Some(stretch) = stretch {
         // What is inserted there already may serve it: the next round decides.
-        if plan.last_inserted(stretch).is_some()
-            || serve(records, plan, lost, *found, heard.0, stretch)?
+        if plan.stretch(stretch).has_inserted
+            || serve(records, plan, lost, found, reply_at, stretch)?
         {
             return Ok(Some(stretch));
         }
     }
-    if conflicts == Conflicts::Maybe && is_conflict(*found) {
-        perform(records, plan, stand, lost, *found, heard.0, rec)
+    if conflicts == Conflicts::Maybe && is_conflict(found) {
+        perform(records, plan, stand, lost, found, reply_at, rec)
     } else {
         Ok(None)
     }

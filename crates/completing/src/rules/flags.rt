@@ -1,5 +1,5 @@
 use crate::rules::lost::Lost;
-use crate::rules::plan::{Plan, Side};
+use crate::rules::plan::{InStretch, RoundPlan};
 use crate::rules::refused::Refused;
 use events::Rec;
 use version_pair::NoMemory;
@@ -9,25 +9,26 @@ use version_pair::NoMemory;
 /// yet, otherwise the first unanswered write. Returns `false` if there is none to insert.
 pub fn fit_flag(
     records: &[Rec],
-    plan: &mut Plan,
+    plan: &mut RoundPlan,
     lost: &mut Lost,
     refused: &mut Refused,
     stretch: usize,
 ) -> Result<bool, NoMemory> {
-    let Some(live) = plan.next_needs(stretch) else {
+    let own = plan.stretch(stretch);
+    let Some(live) = own.needs else {
         return Ok(true);
     };
-    if plan.ends_live(records, stretch) == live {
+    if own.live == live {
         return Ok(true);
     }
-    let ask = plan.ask(records, stretch, !live, live, usize::MAX);
-    let first = refused.first(records, lost.taken(), ask, plan.latest_call(stretch));
+    let ask = plan.ask(stretch, !live, live, usize::MAX);
+    let first = refused.first(lost.taken(), ask, plan.latest_call(stretch));
     let taken = match first {
         Some(rec) => Some(rec),
-        None => lost.candidate(records, ask),
+        None => lost.candidate(ask),
     };
     match taken {
-        Some(rec) => plan.insert(records, lost, stretch, Side::Before, rec),
+        Some(rec) => plan.insert(records, lost, stretch, InStretch::Before, rec),
         None => Ok(false),
     }
 }
@@ -35,11 +36,11 @@ pub fn fit_flag(
 /// Fits the flags of all writes of the chain. Returns `false` if there is no write to insert for one.
 pub fn fit_flags(
     records: &[Rec],
-    plan: &mut Plan,
+    plan: &mut RoundPlan,
     lost: &mut Lost,
     refused: &mut Refused,
 ) -> Result<bool, NoMemory> {
-    for stretch in 0..plan.links.len() {
+    for stretch in 0..plan.writes.len() {
         if !fit_flag(records, plan, lost, refused, stretch)? {
             return Ok(false);
         }

@@ -1,7 +1,8 @@
-use crate::rules::incomplete::incomplete_writes;
-use crate::rules::queue::{Queue, is_left};
+use crate::per_record::PerRecord;
+use crate::rules::chain_write::leaves_it;
+use crate::rules::queue::Queue;
 use crate::timed::{Timed, earlier};
-use doc_register::Op;
+use doc_register::{Conflicts, Op};
 use events::Rec;
 use std::alloc::Global;
 use version_pair::{NoMemory, Pair};
@@ -12,13 +13,21 @@ pub struct Lost {
     // The writes of which no reply says that they were performed.
     incomplete: Vec<usize>,
     // Whether the record is in the chain.
-    taken: Vec<bool>,
+    taken: PerRecord<bool>,
     // Those without a condition.
     deletes: Queue,
     indexes: Queue,
     creates: Queue,
     // Those with a condition, by its pair.
-    swaps: Vec<(Pair, Timed)>,
+    swaps: Vec<Swap>,
+}
+
+// An unanswered write under the condition of a pair.
+#[derive(Clone, Copy, PartialEq, Eq, PartialOrd, Ord)]
+struct Swap {
+    pair: Pair,
+    write: Timed,
+    deletes: bool,
 }
 
 /// What an insertion needs.
@@ -36,36 +45,22 @@ pub struct Ask {
     pub limit: usize,
 }
 
-impl Ask {
-    /// Returns whether the operation is of a kind that will do.
-    pub fn is_for(&self, op: Op) -> bool {
-        match op {
-            Op::Get => false,
-            Op::Delete { .. } => self.delete,
-            Op::Index { .. } | Op::Create { .. } => self.write,
-        }
-    }
-}
-
 impl Lost {
     /// Returns the unanswered writes of a document.
     pub fn of(alloc: Global, records: &[Rec]) -> Result<Lost, NoMemory> {
         let mut lost = Lost {
             incomplete: Vec::new(alloc),
-            taken: vec![in alloc; false; records.len()]?,
+            taken: PerRecord::new(alloc, records, false)?,
             deletes: Queue::new(alloc),
             indexes: Queue::new(alloc),
             creates: Queue::new(alloc),
             swaps: Vec::new(alloc),
         };
-        let incomplete = incomplete_writes(alloc, records)?;
-        for rec in &incomplete {
-            match records.get(*rec) {
-                Some(found) if found.heard.is_none() => lost.note(*rec, *found)?,
-                _ => {}
+        for rec in 0..records.len() {
+            if !records[rec].is_complete(Conflicts::Maybe) {
+                lost.note(rec, records[rec])?;
             }
         }
-        lost.incomplete = incomplete;
         lost.deletes.sort();
         lost.indexes.sort();
         lost.creates.sort();
@@ -73,23 +68,32 @@ impl Lost {
         Ok(lost)
     }
 
-    // Adds an unanswered record.
+    // Adds a write of which no reply says that it was performed.
     fn note(&mut self, rec: usize, found: Rec) -> Result<(), NoMemory> {
-        let call_at = found.call_at;
+        self.incomplete.push(rec)?;
+        if found.heard.is_some() {
+            return Ok(());
+        }
+        let write = Timed {
+            at: found.call_at,
+            rec,
+        };
         match found.op {
-            Op::Get => Ok(()),
-            Op::Create { .. } => self.creates.push(call_at, rec),
-            Op::Index { cond: None, .. } => self.indexes.push(call_at, rec),
-            Op::Delete { cond: None } => self.deletes.push(call_at, rec),
+            Op::Get => {}
+            Op::Create { .. } => self.creates.push(write)?,
+            Op::Index { cond: None, .. } => self.indexes.push(write)?,
+            Op::Delete { cond: None } => self.deletes.push(write)?,
             Op::Index {
                 cond: Some(pair),
                 ..
             }
-            | Op::Delete { cond: Some(pair) } => {
-                self.swaps.push((pair, Timed { at: call_at, rec }))?;
-                Ok(())
-            }
+            | Op::Delete { cond: Some(pair) } => self.swaps.push(Swap {
+                pair,
+                write,
+                deletes: !leaves_it(found.op),
+            })?,
         }
+        Ok(())
     }
 
     /// Returns the writes of which no reply says that they were performed, in their order.
@@ -99,18 +103,16 @@ impl Lost {
 
     /// Takes the record into the chain.
     pub fn take(&mut self, rec: usize) {
-        if let Some(mark) = self.taken.get_mut(rec) {
-            *mark = true;
-        }
+        self.taken.set(rec, true);
     }
 
     /// Returns, for each record, whether it is in the chain.
-    pub fn taken(&self) -> &[bool] {
+    pub fn taken(&self) -> &PerRecord<bool> {
         &self.taken
     }
 
     /// Returns the first, by call, of the writes that would be performed there. It must be called in time.
-    pub fn candidate(&mut self, records: &[Rec], ask: Ask) -> Option<usize> {
+    pub fn candidate(&mut self, ask: Ask) -> Option<usize> {
         let mut first = None;
         if ask.delete {
             first = earlier(first, self.deletes.first(&self.taken));
@@ -122,7 +124,7 @@ impl Lost {
             first = earlier(first, self.creates.first(&self.taken));
         }
         if let Some(pair) = ask.on {
-            first = earlier(first, self.swap(records, pair, ask));
+            first = earlier(first, self.swap(pair, ask));
         }
         match first {
             Some(entry) if entry.at < ask.limit => Some(entry.rec),
@@ -131,16 +133,16 @@ impl Lost {
     }
 
     // The first, by call, of the writes under the condition of the pair.
-    fn swap(&self, records: &[Rec], pair: Pair, ask: Ask) -> Option<Timed> {
-        let start = self.swaps.partition_point(|entry| entry.0 < pair);
+    fn swap(&self, pair: Pair, ask: Ask) -> Option<Timed> {
+        let start = self.swaps.partition_point(|entry| entry.pair < pair);
         for i in start..self.swaps.len() {
-            let (own, entry) = self.swaps[i];
-            if own != pair {
+            let entry = self.swaps[i];
+            if entry.pair != pair {
                 return None;
             }
-            let found = records.get(entry.rec)?;
-            if is_left(&self.taken, entry.rec) && ask.is_for(found.op) {
-                return Some(entry);
+            let will_do = if entry.deletes { ask.delete } else { ask.write };
+            if !self.taken.of(entry.write.rec) && will_do {
+                return Some(entry.write);
             }
         }
         None

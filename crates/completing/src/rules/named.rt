@@ -1,8 +1,10 @@
-use crate::near::{entry_at, place_near};
-use crate::rules::by_number::ByNumber;
-use crate::rules::link::Link;
+use crate::forward::numbers::{ConflictOrder, WritesByNumber};
+use crate::near::find_near;
+use crate::per_record::record;
+use crate::rules::chain_write::ChainWrite;
 use crate::rules::lost::Lost;
 use crate::rules::queue::Queue;
+use crate::timed::Timed;
 use doc_register::{Conflicts, Op, Reply};
 use events::Rec;
 use std::alloc::Global;
@@ -20,8 +22,7 @@ fn unwritten(
     let mut near = 0;
     for found in records {
         if let Some((_, Reply::Found { pair, k })) = found.heard {
-            near = place_near(chain, pair, near);
-            if entry_at(chain, near, pair).is_none() {
+            if find_near(chain, pair, &mut near).is_none() {
                 unwritten.push((pair, k))?;
             }
         }
@@ -38,9 +39,12 @@ fn unanswered_indexes(
 ) -> Result<Queue, NoMemory> {
     let mut indexes = Queue::new(alloc);
     for rec in incomplete {
-        match records.get(*rec) {
+        match record(records, *rec) {
             Some(found) if found.heard.is_none() && matches!(found.op, Op::Index { .. }) => {
-                indexes.push(found.call_at, *rec)?;
+                indexes.push(Timed {
+                    at: found.call_at,
+                    rec: *rec,
+                })?;
             }
             _ => {}
         }
@@ -64,9 +68,8 @@ struct Naming<'a> {
 
 impl Naming<'_> {
     // Whether a write has the pair, which is searched for near an index of the chain first.
-    fn has(&self, pair: Pair, near: usize) -> bool {
-        let place = place_near(self.chain, pair, near);
-        entry_at(self.chain, place, pair).is_some() || self.given.contains(&pair)
+    fn has(&self, pair: Pair, mut near: usize) -> bool {
+        find_near(self.chain, pair, &mut near).is_some() || self.given.contains(&pair)
     }
 
     // Takes the record, whose pair is near an index of the chain.
@@ -78,7 +81,7 @@ impl Naming<'_> {
         near: usize,
     ) -> Result<(), NoMemory> {
         lost.take(rec);
-        if let Some(found) = records.get(rec) {
+        if let Some(found) = record(records, rec) {
             if let Some(named) = found.op.condition() {
                 if !self.has(named, near) {
                     self.asked.insert(named)?;
@@ -98,7 +101,9 @@ impl Naming<'_> {
     ) -> Result<(), NoMemory> {
         self.given.insert(pair)?;
         self.named.push((pair, rec))?;
-        self.take(records, lost, rec, place_near(self.chain, pair, 0))
+        let mut near = 0;
+        let _ = find_near(self.chain, pair, &mut near);
+        self.take(records, lost, rec, near)
     }
 
     // Takes the performed answered writes.
@@ -120,11 +125,15 @@ impl Naming<'_> {
         lost: &mut Lost,
         conflicts: Conflicts,
     ) -> Result<bool, NoMemory> {
-        let mut writes = ByNumber::of(alloc, records, lost.incomplete(), conflicts)?;
-        for (pair, k) in &unwritten(alloc, records, self.chain)? {
+        let unwritten = unwritten(alloc, records, self.chain)?;
+        if unwritten.is_empty() {
+            return Ok(true);
+        }
+        let mut writes = WritesByNumber::of(alloc, records, conflicts, ConflictOrder::Last)?;
+        for (pair, k) in &unwritten {
             if !self.given.contains(pair) {
                 match writes.first(*k, lost.taken()) {
-                    Some(rec) => self.give(records, lost, *pair, rec)?,
+                    Some(entry) => self.give(records, lost, *pair, entry.rec)?,
                     None => return Ok(false),
                 }
             }
@@ -156,32 +165,32 @@ impl Naming<'_> {
         Ok(true)
     }
 
-    // The links of all writes, by pair.
-    fn links(&mut self, alloc: Global) -> Result<Vec<Link>, NoMemory> {
+    // All writes, by pair.
+    fn writes(&mut self, alloc: Global) -> Result<Vec<ChainWrite>, NoMemory> {
         self.named.sort_unstable();
-        let room = self.chain.len().saturating_add(self.named.len());
-        let mut links = Vec::with_capacity(alloc, room)?;
+        let room = self.chain.len() + self.named.len();
+        let mut writes = Vec::with_capacity(alloc, room)?;
         let mut next = 0;
-        for (pair, rec) in self.chain {
+        for own in self.chain {
             for i in next..self.named.len() {
-                if self.named[i].0 > *pair {
+                if self.named[i].0 > own.0 {
                     break;
                 }
-                links.push(link_of(self.named[i]))?;
+                writes.push(with_pair(self.named[i]))?;
                 next = i + 1;
             }
-            links.push(link_of((*pair, *rec)))?;
+            writes.push(with_pair(*own))?;
         }
         for i in next..self.named.len() {
-            links.push(link_of(self.named[i]))?;
+            writes.push(with_pair(self.named[i]))?;
         }
-        Ok(links)
+        Ok(writes)
     }
 }
 
-// The link of a write that has this pair.
-fn link_of((pair, rec): (Pair, usize)) -> Link {
-    Link {
+// A write that has this pair.
+fn with_pair((pair, rec): (Pair, usize)) -> ChainWrite {
+    ChainWrite {
         pair: Some(pair),
         rec,
     }
@@ -195,7 +204,7 @@ pub fn named_chain(
     records: &[Rec],
     lost: &mut Lost,
     conflicts: Conflicts,
-) -> Result<Option<Vec<Link>>, NoMemory> {
+) -> Result<Option<Vec<ChainWrite>>, NoMemory> {
     let chain = chain_of(alloc, records)?;
     if !rises(&chain) {
         return Ok(None);
@@ -212,5 +221,5 @@ pub fn named_chain(
     {
         return Ok(None);
     }
-    Ok(Some(naming.links(alloc)?))
+    Ok(Some(naming.writes(alloc)?))
 }

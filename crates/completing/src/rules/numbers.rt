@@ -1,4 +1,5 @@
-use crate::rules::link::Link;
+use crate::per_record::{PerRecord, record};
+use crate::rules::chain_write::{Chain, ChainWrite};
 use events::{Rec, Seen};
 use places::Place;
 use std::alloc::Global;
@@ -7,7 +8,7 @@ use write_chain::sort_nearly_ordered;
 
 // How far apart the numbers of two places are. Each index of a call is below it, so that a place and a call
 // determine a number.
-const STEP: u64 = 1_048_576;
+const APART: u64 = 1_048_576;
 
 // An answered record outside the chain. They are in the order by stretch, then in response order.
 #[derive(Clone, Copy, PartialEq, Eq, PartialOrd, Ord)]
@@ -29,7 +30,7 @@ fn last_pair(seen: Seen, place: usize, call_at: usize) -> Option<Pair> {
 fn term_pair(term: u64, seen: Seen, place: usize, call_at: usize) -> Option<Pair> {
     let place = u64::try_from(place).ok()?;
     let call_at = u64::try_from(call_at).ok()?;
-    let far = place.checked_mul(STEP)?;
+    let far = place.checked_mul(APART)?;
     let seq = seen
         .seq
         .checked_add(1)?
@@ -39,13 +40,12 @@ fn term_pair(term: u64, seen: Seen, place: usize, call_at: usize) -> Option<Pair
 }
 
 // The next known pair after each invented write, from the last to the first.
-fn pairs_behind(alloc: Global, links: &[Link]) -> Result<Vec<Option<Pair>>, NoMemory> {
+fn pairs_behind(alloc: Global, writes: &[ChainWrite]) -> Result<Vec<Option<Pair>>, NoMemory> {
     let mut behind = Vec::new(alloc);
     let mut next = None;
-    for back in 0..links.len() {
-        let link = links[links.len() - 1 - back];
-        match link.pair {
-            Some(_) => next = link.pair,
+    for write in writes.iter().rev() {
+        match write.pair {
+            Some(_) => next = write.pair,
             None => behind.push(next)?,
         }
     }
@@ -56,14 +56,14 @@ fn pairs_behind(alloc: Global, links: &[Link]) -> Result<Vec<Option<Pair>>, NoMe
 fn reads_in_order(
     alloc: Global,
     records: &[Rec],
-    stretches: &[Option<usize>],
+    stretches: &PerRecord<Option<usize>>,
 ) -> Result<Vec<Outside>, NoMemory> {
     let mut reads = Vec::with_capacity(alloc, records.len())?;
     for rec in 0..records.len() {
-        if let Some(Some(stretch)) = stretches.get(rec) {
+        if let Some(stretch) = stretches.of(rec) {
             if let Some(heard) = records[rec].heard {
                 reads.push(Outside {
-                    stretch: *stretch,
+                    stretch,
                     reply_at: heard.0,
                     rec,
                 })?;
@@ -76,25 +76,15 @@ fn reads_in_order(
 
 // The pairs of the writes of the chain, which are assigned from the first to the last.
 #[derive(Drop)]
-struct Numbering {
+struct PairNumbering {
     seen: Seen,
     // The next known pair after each invented write that is left, from the last to the first.
     behind: Vec<Option<Pair>>,
-    // The next write, and the pair of the one before it.
-    next: usize,
+    // The pair of the write before the next one.
     last: Option<Pair>,
 }
 
-impl Numbering {
-    fn of(alloc: Global, links: &[Link], seen: Seen) -> Result<Numbering, NoMemory> {
-        Ok(Numbering {
-            seen,
-            behind: pairs_behind(alloc, links)?,
-            next: 0,
-            last: None,
-        })
-    }
-
+impl PairNumbering {
     // The pair of an invented write after the last pair and before one of a greater term, if one comes.
     fn invented_pair(&mut self, found: Rec, place: usize) -> Option<Pair> {
         let Some(next) = self.behind.pop()? else {
@@ -108,36 +98,23 @@ impl Numbering {
         }
     }
 
-    // The pair of the next write of the chain, which is the record at this place of the order.
-    fn pair(&mut self, links: &[Link], found: Rec, place: usize) -> Option<Pair> {
-        let own = links.get(self.next)?;
-        self.last = match own.pair {
+    // The place of the next write of the chain, with this index in the order. `None` if its pair would be
+    // between two pairs of one term, or out of range.
+    fn place_of(&mut self, write: ChainWrite, found: Rec, place: usize) -> Option<Place> {
+        self.last = match write.pair {
             Some(pair) => Some(pair),
             None => self.invented_pair(found, place),
         };
-        self.next = self.next.saturating_add(1);
-        self.last
+        let own = self.last?;
+        Some(Place {
+            rec: write.rec,
+            // A reply that shows the pair needs no pair at its place.
+            pair: match found.pair_taken() {
+                Some(_) => None,
+                None => Some(own),
+            },
+        })
     }
-}
-
-// The place of the next write of the chain, which is this record, in the order, whose index is `place`. The
-// numbering goes on to the next write. `None` if its pair would be between two pairs of one term, or out of
-// range.
-fn place_of_write(
-    numbering: &mut Numbering,
-    records: &[Rec],
-    links: &[Link],
-    rec: usize,
-    place: usize,
-) -> Option<Place> {
-    let found = records.get(rec)?;
-    let own = numbering.pair(links, *found, place)?;
-    // A reply that shows the pair needs no pair at its place.
-    let pair = match found.pair_taken() {
-        Some(_) => None,
-        None => Some(own),
-    };
-    Some(Place { rec, pair })
 }
 
 // Adds the places of the reads, from one of them on, up to a stretch; and which one is next.
@@ -164,19 +141,25 @@ fn push_reads(
 pub fn places_with_pairs(
     alloc: Global,
     records: &[Rec],
-    links: &[Link],
-    stretches: &[Option<usize>],
+    chain: &Chain,
     seen: Seen,
 ) -> Result<Option<Vec<Place>>, NoMemory> {
-    let mut numbering = Numbering::of(alloc, links, seen)?;
-    let reads = reads_in_order(alloc, records, stretches)?;
-    let room = links.len().saturating_add(reads.len());
-    let mut places = Vec::with_capacity(alloc, room)?;
+    let writes = chain.writes.as_slice();
+    let mut numbering = PairNumbering {
+        seen,
+        behind: pairs_behind(alloc, writes)?,
+        last: None,
+    };
+    let reads = reads_in_order(alloc, records, &chain.stretches)?;
+    let mut places = Vec::with_capacity(alloc, writes.len() + reads.len())?;
     let mut next = 0;
-    for stretch in 0..links.len() {
+    for stretch in 0..writes.len() {
         next = push_reads(&mut places, &reads, next, stretch)?;
-        let rec = links[stretch].rec;
-        match place_of_write(&mut numbering, records, links, rec, places.len()) {
+        let write = writes[stretch];
+        let Some(found) = record(records, write.rec) else {
+            return Ok(None);
+        };
+        match numbering.place_of(write, found, places.len()) {
             Some(place) => places.push(place)?,
             None => return Ok(None),
         }

@@ -1,6 +1,6 @@
 use crate::rules::flags::fit_flag;
 use crate::rules::lost::Lost;
-use crate::rules::plan::{Plan, Side};
+use crate::rules::plan::{InStretch, RoundPlan};
 use crate::rules::refused::Refused;
 use crate::rules::stand::Stand;
 use events::Rec;
@@ -10,7 +10,7 @@ use version_pair::NoMemory;
 /// the first write whose call comes after its reply. Returns its stretch, if there is one with a number left.
 pub fn perform(
     records: &[Rec],
-    plan: &mut Plan,
+    plan: &mut RoundPlan,
     stand: &Stand,
     lost: &mut Lost,
     found: Rec,
@@ -18,8 +18,8 @@ pub fn perform(
     rec: usize,
 ) -> Result<Option<usize>, NoMemory> {
     let (stretch, side) = match found.op.condition() {
-        Some(pair) => (stand.of_pair(pair), Side::After),
-        None => (Some(plan.stretch_at(reply_at)), Side::Before),
+        Some(pair) => (stand.of_pair(pair), InStretch::After),
+        None => (Some(plan.stretch_at(reply_at)), InStretch::Before),
     };
     let Some(stretch) = stretch else {
         return Ok(None);
@@ -36,7 +36,7 @@ pub fn perform(
 /// number, or if there is no write to insert for the flag that follows it.
 pub fn perform_refused(
     records: &[Rec],
-    plan: &mut Plan,
+    plan: &mut RoundPlan,
     lost: &mut Lost,
     refused: &mut Refused,
 ) -> Result<bool, NoMemory> {
@@ -44,8 +44,8 @@ pub fn perform_refused(
         let Some(entry) = refused.left(i, lost.taken()) else {
             continue;
         };
-        let stretch = plan.stretch_at(entry.at);
-        let has_place = plan.insert(records, lost, stretch, Side::Before, entry.rec)?;
+        let stretch = plan.stretch_at(entry.reply_at);
+        let has_place = plan.insert(records, lost, stretch, InStretch::Before, entry.rec)?;
         if !has_place || !fit_flag(records, plan, lost, refused, stretch)? {
             return Ok(false);
         }

@@ -1,26 +1,36 @@
-use crate::rules::link::{Link, leaves_it, needs};
+use crate::per_record::record;
+use crate::rules::chain_write::{ChainWrite, leaves_it, needs};
 use crate::rules::lost::{Ask, Lost};
 use crate::rules::open::open_stretches;
 use events::Rec;
 use std::alloc::Global;
 use version_pair::{NoMemory, Pair};
 
+/// A part of an order between two writes of the chain, or before the first or after the last one.
+#[derive(Clone, Copy)]
+pub struct Stretch {
+    /// The pair that the document has in it, if it exists and its pair is known.
+    pub pair: Option<Pair>,
+    /// Whether the document exists at its end, with what is inserted.
+    pub live: bool,
+    /// Whether the write at its end needs the document to exist or not to exist.
+    pub needs: Option<bool>,
+    /// Whether something is inserted in it.
+    pub has_inserted: bool,
+    // Whether a write may be inserted in it.
+    is_open: bool,
+    // The least reply of the writes after it.
+    limit: usize,
+    // The greatest call of the writes before it.
+    latest_call: usize,
+}
+
 /// What a round knows of the chain, and what it inserts.
 #[derive(Drop)]
-pub struct Plan {
-    pub links: Vec<Link>,
-    /// For each stretch, whether the document exists.
-    pub live: Vec<bool>,
-    // For each stretch but the last, whether the write after it needs the document to exist or not to exist.
-    needs: Vec<Option<bool>>,
-    // For each stretch, the least reply of the writes after it.
-    limits: Vec<usize>,
-    // For each stretch but the first, the greatest call of the writes before it.
-    calls: Vec<usize>,
-    // For each stretch, whether a write may be inserted in it.
-    open: Vec<bool>,
-    // For each stretch, what was inserted in it last.
-    inserted: Vec<Option<usize>>,
+pub struct RoundPlan {
+    pub writes: Vec<ChainWrite>,
+    /// The stretches in their order: one more than there are writes.
+    pub stretches: Vec<Stretch>,
     // The greatest call of what is inserted.
     inserted_call: usize,
     // All that is inserted.
@@ -29,7 +39,7 @@ pub struct Plan {
 
 /// Where an insertion is in its stretch.
 #[derive(Clone, Copy, PartialEq, Eq, PartialOrd, Ord)]
-pub enum Side {
+pub enum InStretch {
     /// Directly after the stretch's write.
     After,
     /// Directly before the next write.
@@ -41,60 +51,87 @@ pub enum Side {
 #[derive(Clone, Copy, PartialEq, Eq, PartialOrd, Ord)]
 struct Insertion {
     stretch: usize,
-    side: Side,
+    side: InStretch,
     turn: usize,
     rec: usize,
 }
 
-impl Plan {
+impl Stretch {
+    // The stretch before all writes, if no write comes after it.
+    fn first() -> Stretch {
+        Stretch {
+            pair: None,
+            live: false,
+            needs: None,
+            has_inserted: false,
+            is_open: false,
+            limit: usize::MAX,
+            latest_call: 0,
+        }
+    }
+}
+
+// The stretches of the chain, of which none is open yet. The limit of each is the reply of the write after it.
+fn stretches_of(
+    alloc: Global,
+    records: &[Rec],
+    writes: &[ChainWrite],
+) -> Result<Vec<Stretch>, NoMemory> {
+    let mut stretches = Vec::with_capacity(alloc, writes.len() + 1)?;
+    let mut stretch = Stretch::first();
+    for write in writes {
+        let Some(found) = record(records, write.rec) else {
+            continue;
+        };
+        stretches.push(Stretch {
+            needs: needs(found),
+            limit: found.heard.map_or(usize::MAX, |heard| heard.0),
+            ..stretch
+        })?;
+        let live = leaves_it(found.op);
+        stretch = Stretch {
+            pair: if live { write.pair } else { None },
+            live,
+            latest_call: stretch.latest_call.max(found.call_at),
+            ..Stretch::first()
+        };
+    }
+    stretches.push(stretch)?;
+    Ok(stretches)
+}
+
+impl RoundPlan {
     /// Returns the plan of a round over the chain.
-    pub fn of(alloc: Global, records: &[Rec], links: Vec<Link>) -> Result<Plan, NoMemory> {
-        let stretches = links.len().saturating_add(1);
-        let mut plan = Plan {
-            live: Vec::with_capacity(alloc, stretches)?,
-            needs: Vec::with_capacity(alloc, stretches)?,
-            limits: Vec::with_capacity(alloc, stretches)?,
-            calls: Vec::with_capacity(alloc, stretches)?,
-            open: open_stretches(alloc, &links)?,
-            inserted: vec![in alloc; None; stretches]?,
+    pub fn of(
+        alloc: Global,
+        records: &[Rec],
+        writes: Vec<ChainWrite>,
+    ) -> Result<RoundPlan, NoMemory> {
+        let open = open_stretches(alloc, &writes)?;
+        let mut plan = RoundPlan {
+            stretches: stretches_of(alloc, records, &writes)?,
             inserted_call: 0,
             news: Vec::new(alloc),
-            links,
+            writes,
         };
-        plan.note_writes(records)?;
         plan.lower_limits();
+        plan.note_open(&open);
         Ok(plan)
-    }
-
-    // Adds the writes of the chain, and, as the limit of each stretch, the reply of the write after it.
-    fn note_writes(&mut self, records: &[Rec]) -> Result<(), NoMemory> {
-        let mut latest = 0;
-        self.live.push(false)?;
-        for link in &self.links {
-            let (live, need, limit) = match records.get(link.rec) {
-                Some(found) => {
-                    latest = found.call_at.max(latest);
-                    let limit = found.heard.map_or(usize::MAX, |heard| heard.0);
-                    (leaves_it(found.op), needs(*found), limit)
-                }
-                None => (false, None, usize::MAX),
-            };
-            self.live.push(live)?;
-            self.needs.push(need)?;
-            self.limits.push(limit)?;
-            self.calls.push(latest)?;
-        }
-        self.limits.push(usize::MAX)?;
-        Ok(())
     }
 
     // Lowers each limit to the least of those from its stretch on.
     fn lower_limits(&mut self) {
         let mut least = usize::MAX;
-        for back in 0..self.limits.len() {
-            let stretch = self.limits.len() - 1 - back;
-            least = least.min(self.limits[stretch]);
-            self.limits[stretch] = least;
+        for stretch in self.stretches.iter_mut().rev() {
+            least = least.min(stretch.limit);
+            stretch.limit = least;
+        }
+    }
+
+    // Sets in which stretches a write may be inserted.
+    fn note_open(&mut self, open: &[bool]) {
+        for (stretch, is_open) in self.stretches.iter_mut().zip(open.iter()) {
+            stretch.is_open = *is_open;
         }
     }
 
@@ -104,11 +141,18 @@ impl Plan {
         records: &[Rec],
         lost: &mut Lost,
         stretch: usize,
-        side: Side,
+        side: InStretch,
         rec: usize,
     ) -> Result<bool, NoMemory> {
-        if self.open.get(stretch) != Some(&true) {
+        let Some(found) = record(records, rec) else {
             return Ok(false);
+        };
+        match self.stretches.get_mut(stretch) {
+            Some(own) if own.is_open => {
+                own.has_inserted = true;
+                own.live = leaves_it(found.op);
+            }
+            _ => return Ok(false),
         }
         self.news.push(Insertion {
             stretch,
@@ -116,83 +160,42 @@ impl Plan {
             turn: self.news.len(),
             rec,
         })?;
-        if let Some(place) = self.inserted.get_mut(stretch) {
-            *place = Some(rec);
-        }
-        if let Some(found) = records.get(rec) {
-            self.inserted_call = self.inserted_call.max(found.call_at);
-        }
+        self.inserted_call = self.inserted_call.max(found.call_at);
         lost.take(rec);
         Ok(true)
     }
 
-    /// Returns what was inserted in the stretch last.
-    pub fn last_inserted(&self, stretch: usize) -> Option<usize> {
-        match self.inserted.get(stretch) {
-            Some(rec) => *rec,
-            None => None,
-        }
-    }
-
-    /// Returns whether the document exists at the end of the stretch, with what is inserted.
-    pub fn ends_live(&self, records: &[Rec], stretch: usize) -> bool {
-        match self.last_inserted(stretch) {
-            Some(rec) => match records.get(rec) {
-                Some(found) => leaves_it(found.op),
-                None => false,
-            },
-            None => self.live.get(stretch) == Some(&true),
-        }
-    }
-
-    /// Returns whether the write at the end of the stretch needs the document to exist or not to exist.
-    pub fn next_needs(&self, stretch: usize) -> Option<bool> {
-        self.needs.get(stretch).copied().unwrap_or(None)
-    }
-
-    /// Returns the pair that the document has in the stretch, if it exists and its pair is known.
-    pub fn pair_in(&self, stretch: usize) -> Option<Pair> {
-        match self.live.get(stretch) {
-            Some(true) => self.links.get(stretch.checked_sub(1)?)?.pair,
-            _ => None,
+    /// Returns the stretch with the number. (After the last one there are only closed ones.)
+    pub fn stretch(&self, stretch: usize) -> Stretch {
+        match self.stretches.get(stretch) {
+            Some(own) => *own,
+            None => Stretch::first(),
         }
     }
 
     /// Returns the first stretch whose next write is called after the index.
     pub fn stretch_at(&self, place: usize) -> usize {
-        self.calls.partition_point(|call| *call <= place)
+        match self.stretches.split_first() {
+            Some((_, later)) => later.partition_point(|stretch| stretch.latest_call <= place),
+            None => 0,
+        }
     }
 
     /// Returns the greatest call of the writes before the end of the stretch, if nothing is inserted after
     /// it.
     pub fn latest_call(&self, stretch: usize) -> usize {
-        let before = match stretch.checked_sub(1) {
-            Some(link) => self.calls.get(link).copied().unwrap_or(0),
-            None => 0,
-        };
-        before.max(self.inserted_call)
+        self.stretch(stretch).latest_call.max(self.inserted_call)
     }
 
     /// Returns what an insertion at the end of the stretch needs.
-    pub fn ask(
-        &self,
-        records: &[Rec],
-        stretch: usize,
-        delete: bool,
-        write: bool,
-        limit: usize,
-    ) -> Ask {
-        let on = match self.last_inserted(stretch) {
-            Some(_) => None,
-            None => self.pair_in(stretch),
-        };
-        let least = self.limits.get(stretch).copied().unwrap_or(limit);
+    pub fn ask(&self, stretch: usize, delete: bool, write: bool, limit: usize) -> Ask {
+        let own = self.stretch(stretch);
         Ask {
             delete,
             write,
-            live: self.ends_live(records, stretch),
-            on,
-            limit: limit.min(least),
+            live: own.live,
+            on: if own.has_inserted { None } else { own.pair },
+            limit: limit.min(own.limit),
         }
     }
 
@@ -202,24 +205,23 @@ impl Plan {
     }
 
     /// Returns the chain with all that is inserted.
-    pub fn merge(&mut self, alloc: Global) -> Result<Vec<Link>, NoMemory> {
+    pub fn merge(&mut self, alloc: Global) -> Result<Vec<ChainWrite>, NoMemory> {
         self.news.sort_unstable();
-        let room = self.links.len().saturating_add(self.news.len());
-        let mut merged = Vec::with_capacity(alloc, room)?;
+        let mut merged = Vec::with_capacity(alloc, self.writes.len() + self.news.len())?;
         let mut next = 0;
-        for link in 0..self.links.len() {
+        for write in 0..self.writes.len() {
             for i in next..self.news.len() {
                 let Insertion { stretch, rec, .. } = self.news[i];
-                if stretch > link {
+                if stretch > write {
                     break;
                 }
-                merged.push(Link { pair: None, rec })?;
+                merged.push(ChainWrite { pair: None, rec })?;
                 next = i + 1;
             }
-            merged.push(self.links[link])?;
+            merged.push(self.writes[write])?;
         }
         for i in next..self.news.len() {
-            merged.push(Link {
+            merged.push(ChainWrite {
                 pair: None,
                 rec: self.news[i].rec,
             })?;

@@ -1,3 +1,6 @@
+ghost use Rattle.std.specs.Prelude.{◌≤◌, length};
+
+use crate::per_record::PerRecord;
 use crate::timed::Timed;
 use std::alloc::Global;
 use version_pair::NoMemory;
@@ -6,13 +9,21 @@ use version_pair::NoMemory;
 #[derive(Drop)]
 pub struct Queue {
     entries: Vec<Timed>,
-    // The entry before which none is left.
+    // The index of the entry before which none is left.
     first: usize,
+    ghost within: { first ≤ length entries.items },
 }
 
-/// Returns whether the record is not taken.
-pub fn is_left(taken: &[bool], rec: usize) -> bool {
-    taken.get(rec) == Some(&false)
+/// Returns the index of the first entry that is left, from an index on; the number of entries if none is.
+pub fn first_left(entries: &[Timed], from: usize, taken: &PerRecord<bool>) -> usize
+    ensures { result ≤ length entries.now }
+{
+    for i in from..entries.len() {
+        if !taken.of(entries[i].rec) {
+            return i;
+        }
+    }
+    entries.len()
 }
 
 impl Queue {
@@ -25,8 +36,8 @@ impl Queue {
     }
 
     /// Adds a record. The queue must be sorted before the first record is asked for.
-    pub fn push(&mut self, at: usize, rec: usize) -> Result<(), NoMemory> {
-        self.entries.push(Timed { at, rec })?;
+    pub fn push(&mut self, entry: Timed) -> Result<(), NoMemory> {
+        self.entries.push(entry)?;
         Ok(())
     }
 
@@ -35,35 +46,9 @@ impl Queue {
         self.entries.sort_unstable();
     }
 
-    /// Puts a record back that was taken.
-    pub fn put_back(&mut self, at: usize, rec: usize) {
-        let own = Timed { at, rec };
-        let first = self.entries.partition_point(|entry| *entry < own);
-        self.first = self.first.min(first);
-    }
-
-    /// Returns the records whose event is at an index or later, without some of those that were taken. The
-    /// queue must be sorted.
-    pub fn rest(&self, from: usize) -> &[Timed] {
-        let at = self.entries.partition_point(|entry| entry.at < from);
-        self.entries.get(at.max(self.first)..).unwrap_or(&[])
-    }
-
-    /// Returns all records.
-    pub fn all(&self) -> &[Timed] {
-        &self.entries
-    }
-
     /// Returns the first one that is left.
-    pub fn first(&mut self, taken: &[bool]) -> Option<Timed> {
-        for i in self.first..self.entries.len() {
-            let entry = *self.entries.get(i)?;
-            self.first = i;
-            if is_left(taken, entry.rec) {
-                return Some(entry);
-            }
-        }
-        self.first = self.entries.len();
-        None
+    pub fn first(&mut self, taken: &PerRecord<bool>) -> Option<Timed> {
+        self.first = first_left(&self.entries, self.first, taken);
+        self.entries.get(self.first).copied()
     }
 }

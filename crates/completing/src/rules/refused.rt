@@ -1,7 +1,6 @@
-use crate::rules::link::is_free_conflict;
+use crate::per_record::{PerRecord, record};
+use crate::rules::chain_write::is_free_conflict;
 use crate::rules::lost::{Ask, Lost};
-use crate::rules::queue::is_left;
-use crate::timed::Timed;
 use doc_register::Op;
 use events::Rec;
 use std::alloc::Global;
@@ -12,11 +11,19 @@ use write_chain::sort_nearly_ordered;
 /// taken along walks from the first write of the chain to the last.
 #[derive(Drop)]
 pub struct Refused {
-    // With the indices of their replies.
-    entries: Vec<Timed>,
+    entries: Vec<RefusedWrite>,
     // Before these entries no delete, and no index, is left that can be where the walk is.
     next_delete: usize,
     next_index: usize,
+}
+
+/// A conflict without a condition.
+#[derive(Clone, Copy, PartialEq, Eq, PartialOrd, Ord)]
+pub struct RefusedWrite {
+    pub reply_at: usize,
+    pub rec: usize,
+    call_at: usize,
+    deletes: bool,
 }
 
 impl Refused {
@@ -24,14 +31,16 @@ impl Refused {
     pub fn of(alloc: Global, records: &[Rec], lost: &Lost) -> Result<Refused, NoMemory> {
         let mut entries = Vec::new(alloc);
         for rec in lost.incomplete() {
-            let Some(found) = records.get(*rec) else {
+            let Some(found) = record(records, *rec) else {
                 continue;
             };
             if let Some(heard) = found.heard {
-                if is_free_conflict(*found) && is_left(lost.taken(), *rec) {
-                    entries.push(Timed {
-                        at: heard.0,
+                if is_free_conflict(found) && !lost.taken().of(*rec) {
+                    entries.push(RefusedWrite {
+                        reply_at: heard.0,
                         rec: *rec,
+                        call_at: found.call_at,
+                        deletes: matches!(found.op, Op::Delete { .. }),
                     })?;
                 }
             }
@@ -60,13 +69,11 @@ impl Refused {
         self.entries.is_empty()
     }
 
-    /// Returns one of them, in response order, with the index of its reply, if it is still left.
-    pub fn left(&self, i: usize, taken: &[bool]) -> Option<Timed> {
-        let entry = *self.entries.get(i)?;
-        if is_left(taken, entry.rec) {
-            Some(entry)
-        } else {
-            None
+    /// Returns one of them, in response order, if it is still left.
+    pub fn left(&self, i: usize, taken: &PerRecord<bool>) -> Option<RefusedWrite> {
+        match self.entries.get(i) {
+            Some(entry) if !taken.of(entry.rec) => Some(*entry),
+            _ => None,
         }
     }
 
@@ -74,20 +81,16 @@ impl Refused {
     // before it.
     fn next(
         &self,
-        records: &[Rec],
-        taken: &[bool],
-        is_delete: bool,
+        taken: &PerRecord<bool>,
+        deletes: bool,
         from: usize,
         latest_call: usize,
     ) -> usize {
         for i in from..self.entries.len() {
-            if let Some(entry) = self.left(i, taken) {
-                if let Some(found) = records.get(entry.rec) {
-                    let is_kind = matches!(found.op, Op::Delete { .. }) == is_delete;
-                    if is_kind && latest_call < entry.at {
-                        return i;
-                    }
-                }
+            let entry = self.entries[i];
+            let is_kind = entry.deletes == deletes && latest_call < entry.reply_at;
+            if is_kind && !taken.of(entry.rec) {
+                return i;
             }
         }
         self.entries.len()
@@ -97,23 +100,20 @@ impl Refused {
     /// all writes before it, if it is called in time.
     pub fn first(
         &mut self,
-        records: &[Rec],
-        taken: &[bool],
+        taken: &PerRecord<bool>,
         ask: Ask,
         latest_call: usize,
     ) -> Option<usize> {
         let next = if ask.delete {
-            self.next_delete = self.next(records, taken, true, self.next_delete, latest_call);
+            self.next_delete = self.next(taken, true, self.next_delete, latest_call);
             self.next_delete
         } else {
-            self.next_index = self.next(records, taken, false, self.next_index, latest_call);
+            self.next_index = self.next(taken, false, self.next_index, latest_call);
             self.next_index
         };
-        let rec = self.left(next, taken)?.rec;
-        if records.get(rec)?.call_at < ask.limit {
-            Some(rec)
-        } else {
-            None
+        match self.left(next, taken) {
+            Some(entry) if entry.call_at < ask.limit => Some(entry.rec),
+            _ => None,
         }
     }
 }

@@ -1,9 +1,9 @@
 use crate::rules::asking::ask;
+use crate::rules::chain_write::{Chain, ChainWrite, is_free_conflict};
 use crate::rules::flags::fit_flags;
-use crate::rules::link::{Link, is_free_conflict};
 use crate::rules::lost::Lost;
 use crate::rules::performing::perform_refused;
-use crate::rules::plan::Plan;
+use crate::rules::plan::RoundPlan;
 use crate::rules::refused::Refused;
 use crate::rules::stand::Stand;
 use doc_register::Conflicts;
@@ -15,9 +15,9 @@ use version_pair::NoMemory;
 #[derive(Drop)]
 pub enum Round {
     /// Writes were inserted: the chain with them.
-    More(Vec<Link>),
-    /// All records have a stretch: the chain, and the stretch of each answered record that is not in it.
-    Done(Vec<Link>, Vec<Option<usize>>),
+    More(Vec<ChainWrite>),
+    /// All answered records have a stretch.
+    Done(Chain),
     /// A rule found no write to take.
     Stuck,
 }
@@ -26,24 +26,24 @@ pub enum Round {
 // it. Returns `false` if it gets none.
 fn place_read(
     records: &[Rec],
-    plan: &mut Plan,
+    plan: &mut RoundPlan,
     stand: &mut Stand,
     lost: &mut Lost,
     conflicts: Conflicts,
-    reply_at: usize,
     rec: usize,
+    found: Rec,
+    reply_at: usize,
 ) -> Result<bool, NoMemory> {
-    let Some(found) = records.get(rec) else {
-        return Ok(false);
-    };
-    let bound = stand.bound(reply_at, plan.links.len());
-    let stretch = match stand.latest(plan, *found, bound) {
+    let bound = stand.bound(reply_at, plan.writes.len());
+    let stretch = match stand.latest(plan, found, bound) {
         Some(stretch) => Some(stretch),
-        None => ask(records, plan, stand, lost, conflicts, bound, rec)?,
+        None => ask(
+            records, plan, stand, lost, conflicts, bound, rec, found, reply_at,
+        )?,
     };
     match stretch {
         Some(stretch) => {
-            stand.give(rec, Some(stretch));
+            stand.give(rec, stretch);
             stand.meet(found.call_at, stretch)?;
             Ok(true)
         }
@@ -56,7 +56,7 @@ fn place_read(
 // for it.
 fn place_reads(
     records: &[Rec],
-    plan: &mut Plan,
+    plan: &mut RoundPlan,
     stand: &mut Stand,
     lost: &mut Lost,
     conflicts: Conflicts,
@@ -64,9 +64,9 @@ fn place_reads(
     for back in 0..records.len() {
         let rec = records.len() - 1 - back;
         let found = records[rec];
-        if let Some(stretch) = stand.of_link(rec) {
+        if let Some(before) = stand.before_write(rec) {
             // What was answered before a write's call comes before the write's own stretch.
-            stand.meet(found.call_at, stretch.saturating_sub(1))?;
+            stand.meet(found.call_at, before)?;
             continue;
         }
         if let Some(stretch) = stand.of_read(rec) {
@@ -77,7 +77,7 @@ fn place_reads(
             continue;
         };
         if !is_free_conflict(found)
-            && !place_read(records, plan, stand, lost, conflicts, heard.0, rec)?
+            && !place_read(records, plan, stand, lost, conflicts, rec, found, heard.0)?
         {
             return Ok(false);
         }
@@ -91,7 +91,7 @@ fn place_reads(
 pub fn next_round(
     alloc: Global,
     records: &[Rec],
-    links: Vec<Link>,
+    writes: Vec<ChainWrite>,
     lost: &mut Lost,
     refused: &mut Refused,
     conflicts: Conflicts,
@@ -100,7 +100,7 @@ pub fn next_round(
     if conflicts == Conflicts::Plain && !refused.is_empty() {
         return Ok(Round::Stuck);
     }
-    let mut plan = Plan::of(alloc, records, links)?;
+    let mut plan = RoundPlan::of(alloc, records, writes)?;
     if !fit_flags(records, &mut plan, lost, refused)? {
         return Ok(Round::Stuck);
     }
@@ -115,7 +115,10 @@ pub fn next_round(
         return Ok(Round::Stuck);
     }
     if plan.is_done() {
-        Ok(Round::Done(plan.links, stand.into_given()))
+        Ok(Round::Done(Chain {
+            writes: plan.writes,
+            stretches: stand.into_given(),
+        }))
     } else {
         Ok(Round::More(plan.merge(alloc)?))
     }

@@ -1,6 +1,7 @@
-use crate::near::{entry_at, place_near};
-use crate::rules::link::Link;
-use crate::rules::plan::Plan;
+use crate::near::{find, find_near};
+use crate::per_record::PerRecord;
+use crate::rules::chain_write::ChainWrite;
+use crate::rules::plan::{RoundPlan, Stretch};
 use doc_register::{Op, Reply};
 use events::Rec;
 use std::alloc::Global;
@@ -20,15 +21,14 @@ struct Bound {
 /// The stretches of the records of a round.
 #[derive(Drop)]
 pub struct Stand {
-    // For each record in the chain, the stretch that it begins.
-    links: Vec<Option<usize>>,
+    // For each record in the chain, the stretch that it begins, from 1 on.
+    begun: PerRecord<Option<usize>>,
     // For each record outside the chain, its stretch.
-    given: Vec<Option<usize>>,
+    given: PerRecord<Option<usize>>,
     // The stretches of the known pairs, by pair.
     known: Vec<(Pair, usize)>,
-    // The latest stretch up to each in which the document does not exist, and in which it does.
-    absent: Vec<Option<usize>>,
-    present: Vec<Option<usize>>,
+    // For each stretch, the latest ones up to it.
+    latest: Vec<Latest>,
     // For each reply of a write of the chain or of a get that found a pair, from the first to the last, the
     // greatest stretch of those up to it; without those after the last call that was asked for.
     floors: Vec<Bound>,
@@ -37,17 +37,25 @@ pub struct Stand {
     bounds: Vec<Bound>,
 }
 
-// For each stretch, the latest one up to it in which the document exists, or does not, as asked.
-fn latest_stretches(
-    alloc: Global,
-    live: &[bool],
-    asked: bool,
-) -> Result<Vec<Option<usize>>, NoMemory> {
-    let mut table = Vec::with_capacity(alloc, live.len())?;
-    let mut latest = None;
-    for stretch in 0..live.len() {
-        if live[stretch] == asked {
-            latest = Some(stretch);
+// The latest stretch up to one in which the document does not exist, and in which it does.
+#[derive(Clone, Copy)]
+struct Latest {
+    absent: Option<usize>,
+    present: Option<usize>,
+}
+
+// For each stretch, the latest ones up to it.
+fn latest_stretches(alloc: Global, stretches: &[Stretch]) -> Result<Vec<Latest>, NoMemory> {
+    let mut table = Vec::with_capacity(alloc, stretches.len())?;
+    let mut latest = Latest {
+        absent: None,
+        present: None,
+    };
+    for stretch in 0..stretches.len() {
+        if stretches[stretch].live {
+            latest.present = Some(stretch);
+        } else {
+            latest.absent = Some(stretch);
         }
         table.push(latest)?;
     }
@@ -64,30 +72,27 @@ fn pair_found(reply: Reply) -> Option<Pair> {
 
 impl Stand {
     /// Returns the stretches of the writes of the chain, and of no others yet.
-    pub fn of(alloc: Global, records: &[Rec], plan: &Plan) -> Result<Stand, NoMemory> {
+    pub fn of(alloc: Global, records: &[Rec], plan: &RoundPlan) -> Result<Stand, NoMemory> {
         let mut stand = Stand {
-            links: vec![in alloc; None; records.len()]?,
-            given: vec![in alloc; None; records.len()]?,
-            known: Vec::with_capacity(alloc, plan.links.len())?,
-            absent: latest_stretches(alloc, &plan.live, false)?,
-            present: latest_stretches(alloc, &plan.live, true)?,
+            begun: PerRecord::new(alloc, records, None)?,
+            given: PerRecord::new(alloc, records, None)?,
+            known: Vec::with_capacity(alloc, plan.writes.len())?,
+            latest: latest_stretches(alloc, &plan.stretches)?,
             floors: Vec::with_capacity(alloc, records.len())?,
             bounds: Vec::new(alloc),
         };
-        stand.note_links(&plan.links)?;
+        stand.note_writes(&plan.writes)?;
         stand.note_floors(records)?;
         Ok(stand)
     }
 
     // Sets the stretches that the writes begin.
-    fn note_links(&mut self, links: &[Link]) -> Result<(), NoMemory> {
-        for j in 0..links.len() {
-            let link = links[j];
-            if let Some(place) = self.links.get_mut(link.rec) {
-                *place = Some(j + 1);
-            }
-            if let Some(pair) = link.pair {
-                self.known.push((pair, j + 1))?;
+    fn note_writes(&mut self, writes: &[ChainWrite]) -> Result<(), NoMemory> {
+        for j in 0..writes.len() {
+            let stretch = j + 1;
+            self.begun.set(writes[j].rec, Some(stretch));
+            if let Some(pair) = writes[j].pair {
+                self.known.push((pair, stretch))?;
             }
         }
         Ok(())
@@ -100,11 +105,10 @@ impl Stand {
             let Some(heard) = records[rec].heard else {
                 continue;
             };
-            let mut stretch = self.of_link(rec);
+            let mut stretch = self.begun.of(rec);
             if let Some(pair) = pair_found(heard.1) {
-                near = place_near(&self.known, pair, near);
-                stretch = entry_at(&self.known, near, pair);
-                self.give(rec, stretch);
+                stretch = find_near(&self.known, pair, &mut near).map(|known| known.1);
+                self.given.set(rec, stretch);
             }
             if let Some(stretch) = stretch {
                 self.floors.push(Bound {
@@ -124,19 +128,17 @@ impl Stand {
 
     /// Returns the stretch that begins with the write of this pair.
     pub fn of_pair(&self, pair: Pair) -> Option<usize> {
-        let at = self.known.partition_point(|entry| entry.0 < pair);
-        let (own, stretch) = *self.known.get(at)?;
-        if own == pair { Some(stretch) } else { None }
+        Some(find(&self.known, pair)?.1)
     }
 
-    /// Returns the stretch that the record begins, if it is a write of the chain.
-    pub fn of_link(&self, rec: usize) -> Option<usize> {
-        self.links.get(rec).copied().unwrap_or(None)
+    /// Returns the stretch that ends with the record, if it is a write of the chain.
+    pub fn before_write(&self, rec: usize) -> Option<usize> {
+        self.begun.of(rec)?.checked_sub(1)
     }
 
     /// Returns the stretch of the record, if it is a get that found a pair or was given one.
     pub fn of_read(&self, rec: usize) -> Option<usize> {
-        self.given.get(rec).copied().unwrap_or(None)
+        self.given.of(rec)
     }
 
     // The least stretch for a call there: the greatest one of what was answered before. Calls must be asked
@@ -170,8 +172,8 @@ impl Stand {
             return bound;
         }
         let met = self.bounds.partition_point(|entry| entry.at > reply_at);
-        match met.checked_sub(1) {
-            Some(latest) => self.bounds.get(latest).map_or(last, |entry| entry.stretch),
+        match self.bounds[..met].last() {
+            Some(latest) => latest.stretch,
             None => last,
         }
     }
@@ -192,26 +194,24 @@ impl Stand {
         Ok(())
     }
 
-    /// Gives the record outside the chain its stretch, or none.
-    pub fn give(&mut self, rec: usize, stretch: Option<usize>) {
-        if let Some(place) = self.given.get_mut(rec) {
-            *place = stretch;
-        }
+    /// Gives the record outside the chain its stretch.
+    pub fn give(&mut self, rec: usize, stretch: usize) {
+        self.given.set(rec, Some(stretch));
     }
 
     /// Returns the stretch of each record outside the chain.
-    pub fn into_given(self) -> Vec<Option<usize>> {
+    pub fn into_given(self) -> PerRecord<Option<usize>> {
         self.given
     }
 
     // The latest stretch up to the bound in which the state allows a missing or a conflict.
-    fn latest_allowed(&self, plan: &Plan, found: Rec, bound: usize) -> Option<usize> {
+    fn latest_allowed(&self, plan: &RoundPlan, found: Rec, bound: usize) -> Option<usize> {
         match found.op {
-            Op::Get => self.absent.get(bound).copied()?,
-            Op::Create { .. } => self.present.get(bound).copied()?,
+            Op::Get => self.latest.get(bound)?.absent,
+            Op::Create { .. } => self.latest.get(bound)?.present,
             Op::Index { .. } | Op::Delete { .. } => {
                 let pair = found.op.condition()?;
-                if plan.pair_in(bound) == Some(pair) {
+                if plan.stretch(bound).pair == Some(pair) {
                     bound.checked_sub(1)
                 } else {
                     Some(bound)
@@ -222,7 +222,7 @@ impl Stand {
 
     /// Returns the latest stretch of an answered record outside the chain that has none yet: up to the bound
     /// and not too early, if there is one.
-    pub fn latest(&mut self, plan: &Plan, found: Rec, bound: usize) -> Option<usize> {
+    pub fn latest(&mut self, plan: &RoundPlan, found: Rec, bound: usize) -> Option<usize> {
         if let Some((_, Reply::Found { .. })) = found.heard {
             return None;
         }

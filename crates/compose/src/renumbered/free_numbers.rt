@@ -18,7 +18,7 @@ pub struct FreeNumbers<'u> {
 
 /// Returns the pair with the next number in the term.
 pub fn pair_after(pair: Pair) -> Option<Pair> {
-    Pair::new(pair.term(), pair.seq().saturating_add(1))
+    Pair::new(pair.term(), pair.seq() + 1)
 }
 
 impl FreeNumbers<'_> {
@@ -32,8 +32,7 @@ impl FreeNumbers<'_> {
 
     /// Gives the pair.
     pub fn give(&mut self, shard: u32, pair: Pair) -> Result<(), NoMemory> {
-        self.given
-            .insert((shard, pair), pair.seq().saturating_add(1))?;
+        self.given.insert((shard, pair), pair.seq() + 1)?;
         Ok(())
     }
 
@@ -87,7 +86,7 @@ impl FreeNumbers<'_> {
         avoids: bool,
     ) -> Result<Option<Pair>, NoMemory> {
         let mut start = from;
-        for _ in 0..names.len().saturating_add(1) {
+        for _ in 0..=names.len() {
             let Some(pair) = self.first(gap.shard, start) else {
                 return Ok(None);
             };

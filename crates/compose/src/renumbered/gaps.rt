@@ -1,6 +1,6 @@
-use crate::renumbered::given::Given;
+use crate::renumbered::given::GivenPairs;
 use crate::taken::{pair_of_place, shard_of};
-use completing::Gap as Between;
+use completing::PairRange;
 use events::Front;
 use places::DocWitness;
 use std::alloc::Global;
@@ -14,7 +14,7 @@ pub struct Gap {
     /// The number of the witness.
     pub witness: usize,
     /// The numbers that the places may take.
-    pub numbers: Between,
+    pub numbers: PairRange,
     /// The indices of the places, in their order.
     pub places: Vec<usize>,
 }
@@ -81,7 +81,7 @@ impl Gaps {
         let Some(shard) = shard_of(history, witness.id()) else {
             return Ok(());
         };
-        let given = Given::of(alloc, witness)?;
+        let given = GivenPairs::of(alloc, witness)?;
         if given.is_empty() {
             return Ok(());
         }
@@ -89,16 +89,14 @@ impl Gaps {
             lower: None,
             places: Vec::new(alloc),
         };
-        let mut next = 0usize;
+        let mut shown = given.shown.iter();
         let places = witness.places();
         for i in 0..places.len() {
             let Some(pair) = pair_of_place(witness.records(), places[i]) else {
                 continue;
             };
             if places[i].pair.is_some() {
-                let is_invented = given.is_invented(next);
-                next = next.saturating_add(1);
-                if is_invented {
+                if shown.next() == Some(&false) {
                     open.places.push(i)?;
                     continue;
                 }
@@ -119,7 +117,7 @@ impl Gaps {
         open: &mut Open,
         upper: Pair,
     ) -> Result<(), NoMemory> {
-        if let Some(numbers) = Between::between(open.lower, upper) {
+        if let Some(numbers) = PairRange::between(open.lower, upper) {
             if !open.places.is_empty() {
                 self.list.push(Gap {
                     shard,

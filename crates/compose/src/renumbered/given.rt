@@ -1,4 +1,4 @@
-use crate::taken::pair_of_place;
+use crate::taken::{pair_of_place, record_of};
 use doc_register::Op;
 use events::Rec;
 use places::DocWitness;
@@ -7,10 +7,11 @@ use version_pair::{NoMemory, Pair};
 
 /// The pairs that the places of a witness give, in the order of the places, in which they rise.
 #[derive(Drop)]
-pub struct Given {
+pub struct GivenPairs {
     pairs: Vec<Pair>,
-    // For each pair, whether a get found it or the condition of a performed write names it.
-    shown: Vec<bool>,
+    /// For each pair, whether a get found it or the condition of a performed write names it. If not, the pair was
+    /// invented.
+    pub shown: Vec<bool>,
 }
 
 // Returns the pair that a get found.
@@ -21,10 +22,10 @@ fn found_pair(found: Rec) -> Option<Pair> {
     }
 }
 
-impl Given {
+impl GivenPairs {
     /// Returns the pairs of a witness.
-    pub fn of(alloc: Global, witness: &DocWitness) -> Result<Given, NoMemory> {
-        let mut given = Given {
+    pub fn of(alloc: Global, witness: &DocWitness) -> Result<GivenPairs, NoMemory> {
+        let mut given = GivenPairs {
             pairs: Vec::new(alloc),
             shown: Vec::new(alloc),
         };
@@ -47,7 +48,7 @@ impl Given {
         }
         for place in witness.places() {
             if pair_of_place(witness.records(), *place).is_some() {
-                let found = witness.records().get(place.rec);
+                let found = record_of(witness, *place);
                 self.show(found.and_then(|found| found.op.condition()));
             }
         }
@@ -68,10 +69,5 @@ impl Given {
     /// Returns whether there are none.
     pub fn is_empty(&self) -> bool {
         self.pairs.is_empty()
-    }
-
-    /// Returns whether the pair at this index was invented: no other call shows it.
-    pub fn is_invented(&self, at: usize) -> bool {
-        self.shown.get(at) == Some(&false)
     }
 }

@@ -1,13 +1,14 @@
-use crate::renumbered::gaps::{Gap, Gaps};
-use completing::Gap as Between;
+use crate::renumbered::gaps::Gap;
+use completing::PairRange;
 use std::alloc::Global;
 use version_pair::{NoMemory, Pair};
 
 /// The pairs that a gap was given.
 #[derive(Drop)]
-pub struct Filled {
+pub struct Filled<'a> {
     /// The index of the gap in the list.
-    pub gap: usize,
+    pub number: usize,
+    pub gap: &'a Gap,
     pub pairs: Vec<Pair>,
 }
 
@@ -18,7 +19,7 @@ const MOST_ROUNDS: usize = 64;
 #[derive(Clone, Copy)]
 struct Span {
     shard: u32,
-    numbers: Between,
+    numbers: PairRange,
 }
 
 impl Span {
@@ -32,7 +33,7 @@ impl Span {
     fn with(self, gap: &Gap) -> Span {
         Span {
             shard: self.shard,
-            numbers: Between {
+            numbers: PairRange {
                 from: self.numbers.from.min(gap.numbers.from),
                 upper: self.numbers.upper.max(gap.numbers.upper),
             },
@@ -40,18 +41,16 @@ impl Span {
     }
 }
 
-/// Returns the gaps that together want more numbers than are free between their ends: the one that found
-/// none, and those that were given numbers between its ends, between the ends of these, and so on.
+/// Returns the gaps that together want more numbers than are free between their ends, by their indices in the
+/// list: the one that found none, given with its index, and those that were given numbers between its ends,
+/// between the ends of these, and so on.
 pub fn tight_set(
     alloc: Global,
-    gaps: &Gaps,
     filled: &[Filled],
     failed: usize,
+    gap: &Gap,
 ) -> Result<Vec<usize>, NoMemory> {
     let mut tight = Vec::new(alloc);
-    let Some(gap) = gaps.list.get(failed) else {
-        return Ok(tight);
-    };
     tight.push(failed)?;
     let mut span = Span {
         shard: gap.shard,
@@ -60,13 +59,11 @@ pub fn tight_set(
     let mut is_in = vec![in alloc; false; filled.len()]?;
     for _ in 0..MOST_ROUNDS {
         let before = tight.len();
-        for i in 0..filled.len() {
-            if let (Some(other), Some(flag)) = (gaps.list.get(filled[i].gap), is_in.get_mut(i)) {
-                if !*flag && span.touches(other, &filled[i].pairs) {
-                    *flag = true;
-                    tight.push(filled[i].gap)?;
-                    span = span.with(other);
-                }
+        for (entry, flag) in filled.iter().zip(is_in.iter_mut()) {
+            if !*flag && span.touches(entry.gap, &entry.pairs) {
+                *flag = true;
+                tight.push(entry.number)?;
+                span = span.with(entry.gap);
             }
         }
         if tight.len() == before {

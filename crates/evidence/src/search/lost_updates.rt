@@ -3,7 +3,7 @@ ghost use Rattle.evidence.specs.Evidence.{IsOfCalls};
 
 use crate::holding::asks_too_little;
 use crate::refuted::Refuted;
-use crate::search::answered_calls::AnsweredWrite;
+use crate::search::calls_with_pairs::WriteWithPair;
 use std::alloc::Global;
 use version_pair::{NoMemory, Pair};
 
@@ -18,7 +18,7 @@ struct Asking {
 
 impl Asking {
     // These writes and one more.
-    fn with(so_far: Option<Asking>, write: AnsweredWrite) -> Asking {
+    fn with(so_far: Option<Asking>, write: WriteWithPair) -> Asking {
         let performed = write.performed;
         match so_far {
             Some(asking) if asking.doc == write.doc => Asking {
@@ -35,7 +35,7 @@ impl Asking {
     }
 
     // Whether the write comes before one of them.
-    fn are_after(self, write: AnsweredWrite) -> bool {
+    fn are_after(self, write: WriteWithPair) -> bool {
         self.doc == write.doc
             && (write.performed.replied < self.last_called || write.performed.pair < self.greatest)
     }
@@ -44,8 +44,8 @@ impl Asking {
 // The first write, by its number, that comes before one whose condition is below its pair.
 fn least_ignored(
     alloc: Global,
-    writes: &[AnsweredWrite],
-) -> Result<Option<AnsweredWrite>, NoMemory> {
+    writes: &[WriteWithPair],
+) -> Result<Option<WriteWithPair>, NoMemory> {
     // Each write is in this list by its pair, and again by its condition, there after the writes that have
     // exactly that pair.
     let mut marks: Vec<(usize, Pair, bool, usize)> = Vec::new(alloc);
@@ -58,7 +58,7 @@ fn least_ignored(
     }
     marks.sort_unstable();
     let mut asking: Option<Asking> = None;
-    let mut least: Option<AnsweredWrite> = None;
+    let mut least: Option<WriteWithPair> = None;
     for k in 0..marks.len() {
         let (_, _, asks, i) = marks[k];
         let Some(write) = writes.get(i) else {
@@ -79,7 +79,7 @@ fn least_ignored(
 /// Returns the first write, by its number, that a conditional write ignored, with the first of these.
 pub fn least_stale_swap(
     alloc: Global,
-    writes: &[AnsweredWrite],
+    writes: &[WriteWithPair],
 ) -> Result<Option<Refuted>, NoMemory>
     ensures { IfOk result (λ found. IfSome found IsOfCalls) }
 {

@@ -2,9 +2,9 @@ ghost use Rattle.std.specs.Prelude.{IfOk, IfSome};
 ghost use Rattle.evidence.specs.Evidence.{IsOfCalls};
 
 use crate::refuted::Refuted;
-use crate::search::answered_calls::AnsweredWrite;
+use crate::search::calls_with_pairs::WriteWithPair;
 use std::alloc::Global;
-use version_pair::{NoMemory, Pair};
+use version_pair::NoMemory;
 
 // The lesser of two pairs of call numbers.
 fn lesser(one: (u64, u64), other: Option<(u64, u64)>) -> (u64, u64) {
@@ -17,7 +17,7 @@ fn lesser(one: (u64, u64), other: Option<(u64, u64)>) -> (u64, u64) {
 /// Returns the first two writes, by their numbers, of one shard with the same pair.
 pub fn least_pair_twice(
     alloc: Global,
-    writes: &[AnsweredWrite],
+    writes: &[WriteWithPair],
 ) -> Result<Option<Refuted>, NoMemory>
     ensures { IfOk result (λ found. IfSome found IsOfCalls) }
 {
@@ -26,17 +26,13 @@ pub fn least_pair_twice(
         taken.push((write.performed.shard, write.performed.pair, write.no))?;
     }
     taken.sort_unstable();
-    let mut before: Option<(u32, Pair, u64)> = None;
     let mut least = None;
-    for i in 0..taken.len() {
-        let (shard, pair, no) = taken[i];
-        if let Some((same_shard, same_pair, first)) = before
-            && same_shard == shard
-            && same_pair == pair
-        {
+    for i in 1..taken.len() {
+        let (shard, pair, first) = taken[i - 1];
+        let (same_shard, same_pair, no) = taken[i];
+        if same_shard == shard && same_pair == pair {
             least = Some(lesser((first, no), least));
         }
-        before = Some((shard, pair, no));
     }
     Ok(least.map(|(one, two)| Refuted::PairTwice(one, two)))
 }

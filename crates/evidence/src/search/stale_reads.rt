@@ -3,10 +3,10 @@ ghost use Rattle.evidence.specs.Evidence.{IsOfCalls};
 
 use crate::holding::is_overtaken;
 use crate::refuted::Refuted;
-use crate::search::answered_calls::{AnsweredGet, AnsweredWrite};
+use crate::search::calls_with_pairs::{GetWithPair, WriteWithPair};
 
 /// Returns the first stale get, by its number, with the first of the writes that it missed.
-pub fn least_stale_get(gets: &[AnsweredGet], writes: &[AnsweredWrite]) -> Option<Refuted>
+pub fn least_stale_get(gets: &[GetWithPair], writes: &[WriteWithPair]) -> Option<Refuted>
     ensures { IfSome result IsOfCalls }
 {
     let get = gets

@@ -2,7 +2,7 @@ ghost use Rattle.std.specs.Prelude.{◌<◌, IfOk, IfSome, length};
 ghost use Rattle.evidence.specs.Evidence.{IsOfCalls};
 
 use crate::refuted::Refuted;
-use crate::search::answered_calls::AnsweredGet;
+use crate::search::calls_with_pairs::GetWithPair;
 use doc_register::{Conflicts, Reply};
 use events::{Event, HashKeys, History};
 use indexmap::IndexMap;
@@ -11,7 +11,7 @@ use version_pair::{NoMemory, Pair};
 
 // The writes of a history that gave their document a number, or may have, by document and number.
 #[derive(Drop)]
-struct Writers {
+struct NumberWriters {
     // The position of the first call that was answered with this pair.
     shown: IndexMap<(usize, u64, Pair), usize, HashKeys>,
     // The position of the first call whose pair is not known.
@@ -26,10 +26,14 @@ fn is_before(place: Option<&usize>, end: usize) -> bool {
     }
 }
 
-impl Writers {
+impl NumberWriters {
     // Returns the writers of the history.
-    fn of(alloc: Global, history: &History, conflicts: Conflicts) -> Result<Writers, NoMemory> {
-        let mut writers = Writers {
+    fn of(
+        alloc: Global,
+        history: &History,
+        conflicts: Conflicts,
+    ) -> Result<NumberWriters, NoMemory> {
+        let mut writers = NumberWriters {
             shown: IndexMap::with_hasher(alloc, history.keys()),
             open: IndexMap::with_hasher(alloc, history.keys()),
         };
@@ -82,7 +86,7 @@ impl Writers {
 
     // Returns whether one of them, called before the get was answered, may have given the document what the
     // get found.
-    fn explain(&self, get: AnsweredGet) -> bool {
+    fn explain(&self, get: GetWithPair) -> bool {
         let found = get.found;
         is_before(
             self.shown.get(&(get.doc, found.k, found.pair)),
@@ -95,12 +99,12 @@ impl Writers {
 pub fn least_without_writer(
     alloc: Global,
     history: &History,
-    gets: &[AnsweredGet],
+    gets: &[GetWithPair],
     conflicts: Conflicts,
 ) -> Result<Option<Refuted>, NoMemory>
     ensures { IfOk result (λ found. IfSome found IsOfCalls) }
 {
-    let writers = Writers::of(alloc, history, conflicts)?;
+    let writers = NumberWriters::of(alloc, history, conflicts)?;
     let least = gets
         .iter()
         .filter(|get| !writers.explain(**get))

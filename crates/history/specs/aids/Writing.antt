@@ -1,12 +1,14 @@
 -- What the writer of a text has done so far: aids of its contracts.
-use Rattle.std.specs.Prelude.{◌≡◌, ℕ, ◌<◌, ◌^◌, ◌++◌, List, [], ◌∷◌, All, length, map, IsSome}
-use Rattle.serde_json.specs.Data.{Data}
+use Rattle.std.specs.Prelude.{◌≡◌, ◌==◌, ℕ, ◌<◌, ◌^◌, ◌++◌, List, [], ◌∷◌, All, Option, Some, None, codes, if◌then◌else◌, length, map, IsSome}
+use Rattle.serde_json.specs.Data.{Data, Members}
 use Rattle.serde_json.specs.Written.{compact_text}
 use Rattle.version_pair.specs.Id.{IsIdLength}
+use Rattle.version_pair.specs.declared.pair.Pair.{Pair}
 use Rattle.doc_register.specs.declared.op.Op.{Op}
 use Rattle.doc_register.specs.declared.op.Op.TheVariants.{Get, Index, Delete, Create}
 use Rattle.doc_register.specs.declared.reply.Reply.{Reply as Answer}
 use Rattle.doc_register.specs.declared.reply.Reply.TheVariants.{Indexed, Deleted, Found, Missing, Conflict}
+use Rattle.api_lines.specs.Objects.{with_number}
 use Rattle.api_lines.specs.aids.JsonLines.{IsJsonLine}
 use Rattle.events.specs.declared.event.Event.{Event}
 use Rattle.events.specs.declared.event.Event.TheVariants.{Call, Reply, Lost}
@@ -16,6 +18,20 @@ use Rattle.history.specs.Written.{event_value, id_of, written_values}
 pub record IsLineAdded (old new : List ℕ) (v : Data) : Type 0 where
   pub added : new ≡ old ++ written_values (v ∷ [])
   pub json : IsJsonLine (compact_text v) v
+
+-- the members, with the two numbers of a condition, if there is one
+abbrev pub with_condition : Option Pair → Members → Members
+with_condition None ms = ms
+with_condition (Some p) ms = with_number (codes "if_seq_no") p.seq (with_number (codes "if_primary_term") p.term ms)
+
+-- the members, with the number that is written, if there is one
+abbrev pub with_value : Option ℕ → Members → Members
+with_value None ms = ms
+with_value (Some k) ms = with_number (codes "k") k ms
+
+-- the members, with the shard, which isn't named if it is 0
+abbrev pub with_shard : ℕ → Members → Members
+with_shard h ms = if h == 0 then ms else with_number (codes "shard") h ms
 
 -- the number that an operation writes is below 2^64
 abbrev pub OpFits : Op → Type 0

@@ -1,129 +1,107 @@
 //! Prefixes of histories: their first events.
 
-use crate::tests::testing::same;
-use events::{Front, History};
+use doc_register::{Op, Reply};
+use events::{Front, History, Rec, Seen};
 use history::read;
 use std::alloc::Global;
-use std::test::Fail;
-
-const INDEX_THEN_GET: &str = r#"{"e":"call","n":0,"id":"d","op":"index","k":1}
-{"e":"reply","n":0,"status":201,"body":{"_index":"i","_id":"d","_version":1,"result":"created","_shards":{"total":2,"successful":1,"failed":0},"_seq_no":0,"_primary_term":1}}
-{"e":"call","n":1,"id":"d","op":"get"}
-{"e":"reply","n":1,"status":200,"body":{"_index":"i","_id":"d","_version":1,"_seq_no":0,"_primary_term":1,"found":true,"_source":{"k":1}}}
-"#;
+use version_pair::{DocId, Pair};
 
 const DOCUMENTS_INTERLEAVED: &str = r#"{"e":"call","n":0,"id":"a","op":"index","k":1}
 {"e":"call","n":1,"id":"b","op":"index","k":2}
-{"e":"reply","n":0,"status":201,"body":{"_index":"i","_id":"a","_version":1,"result":"created","_shards":{"total":2,"successful":1,"failed":0},"_seq_no":0,"_primary_term":1}}
-{"e":"reply","n":1,"status":201,"body":{"_index":"i","_id":"b","_version":1,"result":"created","_shards":{"total":2,"successful":1,"failed":0},"_seq_no":1,"_primary_term":1}}
+{"e":"reply","n":0,"status":201,"body":{"_id":"a","result":"created","_seq_no":0,"_primary_term":1}}
+{"e":"reply","n":1,"status":201,"body":{"_id":"b","result":"created","_seq_no":1,"_primary_term":1}}
 {"e":"call","n":2,"id":"a","op":"get"}
 {"e":"call","n":3,"id":"b","op":"get"}
-{"e":"reply","n":2,"status":200,"body":{"_index":"i","_id":"a","_version":1,"_seq_no":0,"_primary_term":1,"found":true,"_source":{"k":1}}}
-{"e":"reply","n":3,"status":200,"body":{"_index":"i","_id":"b","_version":1,"_seq_no":1,"_primary_term":1,"found":true,"_source":{"k":2}}}
+{"e":"reply","n":2,"status":200,"body":{"_id":"a","_seq_no":0,"_primary_term":1,"found":true,"_source":{"k":1}}}
+{"e":"reply","n":3,"status":200,"body":{"_id":"b","_seq_no":1,"_primary_term":1,"found":true,"_source":{"k":2}}}
 "#;
 
-// Returns what a prefix has: the number of its events, its documents with their shards and records, and the
-// greatest numbers.
-fn reported(alloc: Global, front: &Front<'_>) -> Result<String, Fail> {
-    let len = front.len();
-    let mut text = format!(in alloc; "{len}; ")?;
+// Returns the only record of a document of a prefix, with its id and its shard.
+fn only_record<'h>(front: &Front<'h>, doc: usize) -> Option<(&'h str, u32, Rec)> {
+    if doc >= front.docs() {
+        return None;
+    }
+    match front.records(doc).ok()?.as_slice() {
+        [record] => Some((front.doc(doc).as_str(), front.shard(doc), *record)),
+        _ => None,
+    }
+}
+
+// Returns whether the first three events are those of an answered index of "a" and an open one of "b".
+fn has_first_three(front: &Front<'_>) -> Option<bool> {
+    let pair = Pair::new(1, 0)?;
+    let answered = Rec {
+        no: 0,
+        op: Op::Index { k: 1, cond: None },
+        call_at: 0,
+        heard: Some((
+            2,
+            Reply::Indexed {
+                pair,
+                created: true,
+            },
+        )),
+    };
+    let open = Rec {
+        no: 1,
+        op: Op::Index { k: 2, cond: None },
+        call_at: 1,
+        heard: None,
+    };
+    Some(only_record(front, 0)? == ("a", 0, answered) && only_record(front, 1)? == ("b", 0, open))
+}
+
+// Returns whether the prefix of three events is that.
+fn are_first_three(history: &History) -> Option<bool> {
+    let front = history.front(3);
+    let is_three = front.len() == 3 && front.seen() == Seen { term: 1, seq: 0 };
+    Some(is_three && has_first_three(&front)?)
+}
+
+// Returns whether only a prefix with the call of a document has it.
+fn is_found_once_called(alloc: Global, history: &History) -> Option<bool> {
+    let id = DocId::new(alloc, "b").ok()?;
+    Some(history.front(1).doc_of(&id).is_none() && history.front(2).doc_of(&id) == Some(1))
+}
+
+// Returns whether a prefix and the copy of its events have the same records of a document.
+fn is_document_same(front: &Front<'_>, copied: &Front<'_>, doc: usize) -> Option<bool> {
+    if doc >= front.docs() || doc >= copied.docs() {
+        return None;
+    }
+    Some(front.records(doc).ok()? == copied.records(doc).ok()?)
+}
+
+// Returns whether a prefix and the copy of its events have the same documents.
+fn are_same(front: &Front<'_>, copied: &Front<'_>) -> Option<bool> {
     for doc in 0..front.docs() {
-        let id = front.doc(doc).as_str();
-        let shard = front.shard(doc);
-        let records = front.records(doc)?;
-        text.push_str(&format!(in alloc; "{id} on {shard} {records:?}; ")?)?;
+        if !is_document_same(front, copied, doc)? {
+            return Some(false);
+        }
     }
-    let seen = front.seen();
-    text.push_str(&format!(in alloc; "{} {}", seen.term, seen.seq)?)?;
-    Ok(text)
+    let is_counted = front.len() == copied.len() && front.docs() == copied.docs();
+    Some(is_counted && front.seen() == copied.seen())
 }
 
-// Returns the events of a prefix, and its numbers of the documents of the whole history.
-fn numbered(alloc: Global, whole: &History, front: &Front<'_>) -> Result<String, Fail> {
-    let mut text = String::new(alloc);
-    for place in 0..front.len() {
-        let event = front.event(place);
-        text.push_str(&format!(in alloc; "{event:?}; ")?)?;
+// Returns whether each prefix, and the one past the end, is as a copy of its events.
+fn are_as_copied(history: &History) -> Option<bool> {
+    for end in 0..10 {
+        let copied = history.prefix(end).ok()?;
+        if !are_same(&history.front(end), &copied.whole())? {
+            return Some(false);
+        }
     }
-    for doc in 0..whole.docs() {
-        let number = front.doc_of(whole.doc(doc));
-        text.push_str(&format!(in alloc; "{number:?} ")?)?;
-    }
-    Ok(text)
+    Some(true)
 }
 
-// Asserts that a prefix of the history of a text has what is wanted.
-fn has(alloc: Global, text: &str, end: usize, want: &str) -> Result<(), Fail> {
-    let history = read(alloc, text.as_bytes())?;
-    let got = reported(alloc, &history.front(end))?;
-    same("front", got.as_str(), want)
+// Returns whether all of that holds of the history of the text.
+fn has_fronts(alloc: Global) -> Option<bool> {
+    let history = read(alloc, DOCUMENTS_INTERLEAVED.as_bytes()).ok()?;
+    let are_first = are_first_three(&history)? && is_found_once_called(alloc, &history)?;
+    Some(are_first && are_as_copied(&history)?)
 }
 
 #[test]
-fn first_events(rt: HostRuntime) -> Result<(), Fail> {
-    for (text, end, want) in [
-        (INDEX_THEN_GET, 0, "0; 0 0"),
-        (
-            INDEX_THEN_GET,
-            1,
-            "1; d on 0 [Rec { no: 0, op: Index { k: 1, cond: None }, call_at: 0, heard: None }]; 0 0",
-        ),
-        (
-            INDEX_THEN_GET,
-            3,
-            "3; d on 0 [Rec { no: 0, op: Index { k: 1, cond: None }, call_at: 0, heard: Some((1, Indexed { pair: Pair { term: 1, seq: 0 }, created: true })) }, Rec { no: 1, op: Get, call_at: 2, heard: None }]; 1 0",
-        ),
-        (
-            DOCUMENTS_INTERLEAVED,
-            1,
-            "1; a on 0 [Rec { no: 0, op: Index { k: 1, cond: None }, call_at: 0, heard: None }]; 0 0",
-        ),
-        (
-            DOCUMENTS_INTERLEAVED,
-            3,
-            "3; a on 0 [Rec { no: 0, op: Index { k: 1, cond: None }, call_at: 0, heard: Some((2, Indexed { pair: Pair { term: 1, seq: 0 }, created: true })) }]; b on 0 [Rec { no: 1, op: Index { k: 2, cond: None }, call_at: 1, heard: None }]; 1 0",
-        ),
-    ] {
-        has(rt.alloc(), text, end, want)?;
-    }
-    Ok(())
-}
-
-// Asserts that two prefixes have the same events and documents.
-fn are_same(
-    alloc: Global,
-    whole: &History,
-    front: &Front<'_>,
-    copied: &Front<'_>,
-) -> Result<(), Fail> {
-    let got = reported(alloc, front)?;
-    let want = reported(alloc, copied)?;
-    same("front", got.as_str(), want.as_str())?;
-    let got = numbered(alloc, whole, front)?;
-    let want = numbered(alloc, whole, copied)?;
-    same("events", got.as_str(), want.as_str())
-}
-
-// Asserts that each prefix of a history, and the prefix past its end, has what the copy of its first events
-// has.
-fn are_as_copied(alloc: Global, history: &History) -> Result<(), Fail> {
-    for end in 0..history.len().saturating_add(2) {
-        let copied = history.prefix(end)?;
-        are_same(alloc, history, &history.front(end), &copied.whole())?;
-    }
-    Ok(())
-}
-
-// Asserts the same of the history of a text.
-fn are_as_copied_of(alloc: Global, text: &str) -> Result<(), Fail> {
-    let history = read(alloc, text.as_bytes())?;
-    are_as_copied(alloc, &history)
-}
-
-#[test]
-fn fronts_of_worked_cases(rt: HostRuntime) -> Result<(), Fail> {
-    for text in ["", INDEX_THEN_GET, DOCUMENTS_INTERLEAVED] {
-        are_as_copied_of(rt.alloc(), text)?;
-    }
-    Ok(())
+fn first_events(rt: HostRuntime) {
+    assert!(rt; has_fronts(rt.alloc()) == Some(true));
 }

@@ -1,177 +1,135 @@
 //! Events added to a history: what it answers to them, and what it has afterwards.
 
-use crate::tests::testing::same;
 use doc_register::{Conflicts, Op, Reply};
 use events::{Event, HistFault, History};
+use history::read;
 use std::alloc::Global;
-use std::test::Fail;
 use version_pair::{DocId, Pair};
 
-// An index of "d" on shard 3 that was answered, a get of "d" that is pending, and a get of "e" whose outcome
-// is lost (indeterminate).
-const THREE_CALLS: &str =
-    "call 0 3 d index; reply 0 created; call 1 3 d get; call 2 4 e get; lost 2";
-
-// What the history of the three calls has, as `shape_of` reports it.
-const THREE_CALLS_SHAPE: &str =
-    "false 5 2; Some(0) Some(1); Some(2) None; Some(3) Some(4); None None";
-
-// Returns the number that a word spells.
-fn number(word: Option<&str>) -> Result<u64, Fail> {
-    Ok(word.ok_or("a number")?.parse::<u64>()?)
+// What an event says of its call: its shard and its operation, its reply, or that it is lost.
+#[derive(Clone, Copy)]
+enum Said {
+    Call(u32, Op),
+    Reply(Reply),
+    Lost,
 }
 
-fn op(name: Option<&str>) -> Result<Op, Fail> {
-    match name.unwrap_or("") {
-        "get" => Ok(Op::Get),
-        "index" => Ok(Op::Index { k: 1, cond: None }),
-        _ => Err("no operation".into()),
-    }
-}
+const CREATE: Op = Op::Create { k: 1 };
 
-fn reply(name: Option<&str>) -> Result<Reply, Fail> {
-    let pair = Pair::new(1, 0).ok_or("a pair")?;
-    match name.unwrap_or("") {
-        "created" => Ok(Reply::Indexed {
-            pair,
-            created: true,
-        }),
-        "found" => Ok(Reply::Found { pair, k: 1 }),
-        "missing" => Ok(Reply::Missing),
-        _ => Err("no reply".into()),
-    }
-}
+// The number of a call, its document, what an event says of it, and what a history answers.
+const PUSHED: [(u64, &str, Said, Result<(), HistFault>); 12] = [
+    (0, "d", Said::Call(3, CREATE), Ok(())),
+    (0, "d", Said::Reply(Reply::Conflict), Ok(())),
+    (1, "d", Said::Call(3, Op::Get), Ok(())),
+    (2, "e", Said::Call(4, Op::Get), Ok(())),
+    (2, "e", Said::Lost, Ok(())),
+    (1, "g", Said::Call(9, CREATE), Err(HistFault::SecondCall)),
+    (3, "d", Said::Call(5, Op::Get), Err(HistFault::ShardMoved)),
+    (3, "d", Said::Reply(Reply::Missing), Err(HistFault::NoCall)),
+    (0, "d", Said::Reply(Reply::Conflict), Err(HistFault::Ended)),
+    (2, "e", Said::Lost, Err(HistFault::Ended)),
+    (1, "d", Said::Reply(Reply::Conflict), Err(HistFault::Kind)),
+    (1, "d", Said::Reply(Reply::Missing), Ok(())),
+];
 
-// Returns what a history answers to a call.
-fn push_call(
+// Returns what a history answers to an event. The shard of a call is below 1,024.
+fn push(
     alloc: Global,
     history: &mut History,
     no: u64,
-    shard: u64,
-    id: Option<&str>,
-    op: Op,
-) -> Result<Result<(), HistFault>, Fail> {
-    let id = DocId::new(alloc, id.unwrap_or(""))?;
-    if shard >= 1024 {
-        return Err("no shard".into());
-    }
-    let shard = shard as u32;
-    Ok(history.push(Event::Call { no, shard, id, op }))
-}
-
-// Returns what a history answers to one more event. The step gives the event's kind and its number; then its
-// reply, or its shard, its document and its operation.
-fn push(alloc: Global, history: &mut History, step: &str) -> Result<Result<(), HistFault>, Fail> {
-    let mut words = step.split_whitespace();
-    let kind = words.next().unwrap_or("");
-    let no = number(words.next())?;
-    match kind {
-        "call" => {
-            let shard = number(words.next())?;
-            let id = words.next();
-            push_call(alloc, history, no, shard, id, op(words.next())?)
+    id: &str,
+    said: Said,
+) -> Option<Result<(), HistFault>> {
+    match said {
+        Said::Call(shard, op) if shard < 1_024 => {
+            let id = DocId::new(alloc, id).ok()?;
+            Some(history.push(Event::Call { shard, no, id, op }))
         }
-        "reply" => Ok(history.push(Event::Reply {
-            no,
-            reply: reply(words.next())?,
-        })),
-        "lost" => Ok(history.push(Event::Lost { no })),
-        _ => Err("no event".into()),
+        Said::Call(..) => None,
+        Said::Reply(reply) => Some(history.push(Event::Reply { no, reply })),
+        Said::Lost => Some(history.push(Event::Lost { no })),
     }
 }
 
-// Adds these events to a history, which must take them.
-fn push_all(alloc: Global, history: &mut History, steps: &str) -> Result<(), Fail> {
-    for step in steps.split_terminator(';') {
-        if push(alloc, history, step)?.is_err() {
-            return Err("an event is refused".into());
+// Returns the number of the first events that are answered as they should be.
+fn pushed(alloc: Global, history: &mut History) -> usize {
+    for (place, (no, id, said, wanted)) in PUSHED.iter().enumerate() {
+        if push(alloc, history, *no, id, *said) != Some(*wanted) {
+            return place;
         }
     }
-    Ok(())
-}
-
-// Returns the history of these events.
-fn history_of(alloc: Global, steps: &str) -> Result<History, Fail> {
-    let mut history = History::new(alloc);
-    push_all(alloc, &mut history, steps)?;
-    Ok(history)
-}
-
-// Returns whether a history is empty, and the numbers of its events and documents; then the positions of the
-// calls 0 to 3 and of their endings.
-fn shape_of(alloc: Global, history: &History) -> Result<String, Fail> {
-    let is_empty = history.is_empty();
-    let len = history.len();
-    let docs = history.docs();
-    let mut shape = format!(in alloc; "{is_empty} {len} {docs}")?;
-    for no in 0..4 {
-        let call = history.call(no);
-        let ending = history.ending(no);
-        shape.push_str(&format!(in alloc; "; {call:?} {ending:?}")?)?;
-    }
-    Ok(shape)
-}
-
-// Returns whether the get numbered 1 is on shard 3 at the position 2, and the loss of the call 2 at the
-// position 4.
-fn has_get_and_loss(history: &History) -> bool {
-    history.len() >= 5
-        && matches!(
-            history.event(2),
-            Event::Call {
-                no: 1,
-                shard: 3,
-                op: Op::Get,
-                ..
-            }
-        )
-        && matches!(history.event(4), Event::Lost { no: 2 })
-}
-
-// Asserts that a history has this shape.
-fn has_shape(alloc: Global, history: &History, want: &str) -> Result<(), Fail> {
-    let shape = shape_of(alloc, history)?;
-    same("shape", shape.as_str(), want)
+    PUSHED.len()
 }
 
 #[test]
-fn empty_history(rt: HostRuntime) -> Result<(), Fail> {
-    let history = History::new(rt.alloc());
-    has_shape(
-        rt.alloc(),
-        &history,
-        "true 0 0; None None; None None; None None; None None",
-    )
+fn events_pushed(rt: HostRuntime) {
+    let mut history = History::new(rt.alloc());
+    assert!(rt; history.is_empty());
+    assert_eq!(rt; pushed(rt.alloc(), &mut history), 12);
+    assert_eq!(rt; history.len(), 6);
 }
 
-// Asserts what a history answers to one more event.
-fn is_pushed(alloc: Global, history: &mut History, step: &str, want: &str) -> Result<(), Fail> {
-    let reported = push(alloc, history, step)?;
-    let reported = format!(in alloc; "{reported:?}")?;
-    same(step, reported.as_str(), want)
+// An index of "d" on shard 3 that was answered, a get of "d" that is pending, and a get of "e" whose outcome
+// is lost (indeterminate).
+const THREE_CALLS: &str = r#"{"e":"call","n":0,"id":"d","op":"index","k":1,"shard":3}
+{"e":"reply","n":0,"status":201,"body":{"_id":"d","result":"created","_seq_no":0,"_primary_term":1}}
+{"e":"call","n":1,"id":"d","op":"get","shard":3}
+{"e":"call","n":2,"id":"e","op":"get","shard":4}
+{"e":"lost","n":2}
+"#;
+
+// Returns the positions of the calls 0 to 3 and of their endings.
+fn positions(history: &History) -> [[Option<usize>; 4]; 2] {
+    [
+        [
+            history.call(0),
+            history.call(1),
+            history.call(2),
+            history.call(3),
+        ],
+        [
+            history.ending(0),
+            history.ending(1),
+            history.ending(2),
+            history.ending(3),
+        ],
+    ]
 }
 
-// Asserts that a history has what that of the three calls has.
-fn has_three_calls(alloc: Global, history: &History) -> Result<(), Fail> {
-    if has_get_and_loss(history) {
-        has_shape(alloc, history, THREE_CALLS_SHAPE)
-    } else {
-        Err("no get and loss".into())
+// Returns whether the calls and the endings are where they should be.
+fn are_placed(history: &History) -> bool {
+    let calls = [Some(0), Some(2), Some(3), None];
+    let endings = [Some(1), None, Some(4), None];
+    positions(history) == [calls, endings]
+}
+
+// Returns whether the event at the position 3 is the get of "e".
+fn has_get(history: &History) -> bool {
+    if history.len() < 4 {
+        return false;
+    }
+    match history.event(3) {
+        Event::Call { shard, no, id, op } => *shard == 4
+            && *no == 2
+            && id.as_str() == "e"
+            && *op == Op::Get,
+        _ => false,
     }
 }
 
-// Asserts that a refused event leaves the history of the three calls as it was.
-fn keeps_three_calls(alloc: Global, history: &mut History) -> Result<(), Fail> {
-    has_three_calls(alloc, history)?;
-    is_pushed(alloc, history, "call 1 9 g index", "Err(SecondCall)")?;
-    is_pushed(alloc, history, "reply 2 missing", "Err(Ended)")?;
-    has_three_calls(alloc, history)
+// Returns the number of the document with this id.
+fn number_of(alloc: Global, history: &History, id: &str) -> Option<usize> {
+    let id = DocId::new(alloc, id).ok()?;
+    history.doc_of(&id)
 }
 
-#[test]
-fn calls_and_endings(rt: HostRuntime) -> Result<(), Fail> {
-    let mut history = history_of(rt.alloc(), THREE_CALLS)?;
-    keeps_three_calls(rt.alloc(), &mut history)
+// Returns whether the second document is "e" on the shard 4, and there is no "f".
+fn has_documents(alloc: Global, history: &History) -> bool {
+    history.docs() == 2
+        && history.doc(1).as_str() == "e"
+        && history.shard(1) == 4
+        && number_of(alloc, history, "e") == Some(1)
+        && number_of(alloc, history, "f").is_none()
 }
 
 // Returns what is known before an event of the call with this number: whether it is complete, and the pair
@@ -181,69 +139,28 @@ fn known_of(history: &History, no: u64, event: usize) -> Option<(bool, Option<Pa
     Some((known.is_complete(Conflicts::Plain), known.pair_taken()))
 }
 
-#[test]
-fn records_by_number(rt: HostRuntime) -> Result<(), Fail> {
-    let history = history_of(rt.alloc(), THREE_CALLS)?;
-    let pair = Pair::new(1, 0);
-    for (no, event, want) in [
-        (0, 2, Some((true, pair))),
-        (0, 1, Some((false, None))),
-        (1, 5, Some((true, None))),
-        (3, 5, None),
-    ] {
-        assert_eq!(rt;
-            known_of(&history, no, event),
-            want,
-            "call {no} before event {event}"
-        );
-    }
-    assert_eq!(rt; history.heard(0).map(|heard| heard.0), Some(1));
-    assert_eq!(rt; history.heard(2), None);
-    Ok(())
+// Returns whether that is known of the three calls which should be.
+fn are_known(history: &History) -> bool {
+    known_of(history, 0, 2) == Some((true, Pair::new(1, 0)))
+        && known_of(history, 0, 1) == Some((false, None))
+        && known_of(history, 1, 5) == Some((true, None))
+        && known_of(history, 3, 5).is_none()
 }
 
-// Asserts what the history of the three calls answers to one more event.
-fn is_reported(alloc: Global, step: &str, want: &str) -> Result<(), Fail> {
-    let mut history = history_of(alloc, THREE_CALLS)?;
-    is_pushed(alloc, &mut history, step, want)
+// Returns whether the first call is heard at its reply, and the third one never.
+fn are_heard(history: &History) -> Option<bool> {
+    let heard = history.heard(0)?;
+    Some(heard.0 == 1 && heard.1.pair() == Pair::new(1, 0) && history.heard(2).is_none())
+}
+
+// Returns whether all of that holds of the history of the three calls.
+fn has_three_calls(alloc: Global) -> Option<bool> {
+    let history = read(alloc, THREE_CALLS.as_bytes()).ok()?;
+    let are_there = are_placed(&history) && has_get(&history) && has_documents(alloc, &history);
+    Some(are_there && are_known(&history) && are_heard(&history)?)
 }
 
 #[test]
-fn refused_events(rt: HostRuntime) -> Result<(), Fail> {
-    for (step, want) in [
-        // If both hold, the first cause is reported.
-        ("reply 0 found", "Err(Ended)"),
-        ("reply 1 created", "Err(Kind)"),
-    ] {
-        is_reported(rt.alloc(), step, want)?;
-    }
-    Ok(())
-}
-
-// Asserts which number the document with this id has.
-fn is_numbered(
-    alloc: Global,
-    history: &History,
-    id: &str,
-    want: Option<usize>,
-) -> Result<(), Fail> {
-    let named = DocId::new(alloc, id)?;
-    if history.doc_of(&named) == want {
-        Ok(())
-    } else {
-        Err(Fail::new(format_args!("another number of {id}")))
-    }
-}
-
-// Asserts that "b" and "a" are the documents 0 and 1, and that there is no document "c".
-fn are_numbered(alloc: Global, history: &History) -> Result<(), Fail> {
-    is_numbered(alloc, history, "b", Some(0))?;
-    is_numbered(alloc, history, "a", Some(1))?;
-    is_numbered(alloc, history, "c", None)
-}
-
-#[test]
-fn documents_found_by_id(rt: HostRuntime) -> Result<(), Fail> {
-    let history = history_of(rt.alloc(), "call 0 7 b get; call 1 0 a get")?;
-    are_numbered(rt.alloc(), &history)
+fn three_calls(rt: HostRuntime) {
+    assert!(rt; has_three_calls(rt.alloc()) == Some(true));
 }

@@ -1,120 +1,103 @@
 //! The recorder with one lock.
 
-use crate::tests::testing::{
-    REPORTED, close_reported, document, fill, record_gets, record_in_turns,
-};
+use crate::tests::testing::{has_both, is_filled, record_both};
 use doc_register::{Op, Reply};
 use recorder::{CloseFault, Pen, RecFault, Recorder, StartFault};
 use std::alloc::Global;
-use std::test::Fail;
-use std::thread::join;
+use std::sync::Wait;
+use version_pair::DocId;
 
-// Two pens of one recorder.
-fn two_pens(alloc: Global) -> Result<(Recorder, Pen, Pen), Fail> {
-    let (recorder, mut pens) = Recorder::start(alloc, 2)?;
-    let second = pens.pop().ok_or("a second pen")?;
-    let first = pens.pop().ok_or("a first pen")?;
-    Ok((recorder, first, second))
+// Returns the number of the pens that a recorder is started with.
+fn started(alloc: Global, count: usize) -> Result<usize, StartFault> {
+    let (_, pens) = Recorder::start(alloc, count)?;
+    Ok(pens.len())
+}
+
+// Returns the number of events in the history of eight new pens.
+fn events_of_eight(alloc: Global) -> Option<usize> {
+    let (recorder, pens) = Recorder::start(alloc, 8).ok()?;
+    let history = recorder.close(pens).ok()?;
+    Some(history.len())
 }
 
 #[test]
-fn pens_meet(rt: HostRuntime) -> Result<(), Fail> {
-    let alloc = rt.alloc();
-    let (recorder, mut first, mut second) = two_pens(alloc)?;
-    record_in_turns(&rt, alloc, &recorder, &mut first, &mut second)?;
-    let closed = recorder.close(vec![in alloc; first, second]?);
-    assert_eq!(rt; close_reported(alloc, closed)?.as_str(), REPORTED);
-    Ok(())
-}
-
-#[test]
-fn pens_handed_back(rt: HostRuntime) -> Result<(), Fail> {
-    let alloc = rt.alloc();
-    let (recorder, mut first, mut second) = two_pens(alloc)?;
-    record_in_turns(&rt, alloc, &recorder, &mut first, &mut second)?;
-    let Err(CloseFault::PenMissing(recorder, mut pens)) = recorder.close(vec![in alloc; first]?)
-    else {
-        return Err("a pen is missing".into());
-    };
-    assert_eq!(rt; pens.len(), 1);
-    pens.push(second)?;
-    assert_eq!(rt;
-        close_reported(alloc, recorder.close(pens))?.as_str(),
-        REPORTED
-    );
-    Ok(())
-}
-
-#[test]
-fn pen_counts(rt: HostRuntime) -> Result<(), Fail> {
-    let alloc = rt.alloc();
-    assert_eq!(rt; Recorder::start(alloc, 0).err(), Some(StartFault::Count));
-    assert_eq!(rt; Recorder::start(alloc, 9).err(), Some(StartFault::Count));
-    let (recorder, pens) = Recorder::start(alloc, 8)?;
-    assert_eq!(rt; pens.len(), 8);
-    assert_eq!(rt; close_reported(alloc, recorder.close(pens))?.as_str(), "");
-    Ok(())
-}
-
-#[test]
-fn pen_of_another_recorder(rt: HostRuntime) -> Result<(), Fail> {
-    let alloc = rt.alloc();
-    let (recorder, mut pens) = Recorder::start(alloc, 1)?;
-    let mut pen = pens.pop().ok_or("a pen")?;
-    assert_eq!(rt;
-        recorder.call(&rt, &mut pen, document(alloc)?, Op::Get),
-        Ok(0)
-    );
-    let (other, _) = Recorder::start(alloc, 1)?;
-    assert_eq!(rt;
-        other.reply(&rt, &mut pen, 0, Reply::Missing),
-        Err(RecFault::Rewound(0))
-    );
-    let closed = other.close(vec![in alloc; pen]?);
-    assert_eq!(rt; close_reported(alloc, closed)?.as_str(), "mismatch");
-    Ok(())
-}
-
-#[test]
-fn pens_in_two_threads(rt: HostRuntime) -> Result<(), Fail> {
-    let alloc = rt.alloc();
-    let (recorder, mut first, mut second) = two_pens(alloc)?;
-    let (one, two) = join(
-        &rt,
-        || record_gets(&rt, alloc, &recorder, &mut first, 1000),
-        || record_gets(&rt, alloc, &recorder, &mut second, 1000),
-    );
-    assert!(rt; one && two);
-    let Ok(history) = recorder.close(vec![in alloc; first, second]?) else {
-        return Err("a history".into());
-    };
-    assert_eq!(rt; history.len(), 4000);
-    assert_eq!(rt; history.docs(), 1);
-    Ok(())
-}
-
-#[test]
-fn full(rt: HostRuntime) -> Result<(), Fail> {
-    let alloc = rt.alloc();
-    let (recorder, mut first, mut second) = two_pens(alloc)?;
-    assert_eq!(rt; fill(&rt, alloc, &recorder, &mut first), Some(1_048_575));
-    for _ in 0..2 {
-        assert_eq!(rt;
-            recorder.call(&rt, &mut first, document(alloc)?, Op::Get),
-            Err(RecFault::Full)
-        );
-        assert_eq!(rt;
-            recorder.call(&rt, &mut second, document(alloc)?, Op::Get),
-            Err(RecFault::Full)
-        );
-        assert_eq!(rt;
-            recorder.reply(&rt, &mut first, 0, Reply::Missing),
-            Err(RecFault::Ended)
-        );
+fn pen_counts(rt: HostRuntime) {
+    for (count, wanted) in [
+        (0, Err(StartFault::Count)),
+        (8, Ok(8)),
+        (9, Err(StartFault::Count)),
+    ] {
+        assert!(rt; started(rt.alloc(), count) == wanted, "{count}");
     }
-    let Ok(history) = recorder.close(vec![in alloc; first, second]?) else {
-        return Err("a history".into());
-    };
-    assert_eq!(rt; history.len(), 1_048_576);
-    Ok(())
+    assert!(rt; events_of_eight(rt.alloc()) == Some(0));
+}
+
+// Returns the recorder and the pen that come back if the recorder is closed without its other pen.
+fn handed_back(alloc: Global, recorder: Recorder, pen: Pen) -> Option<(Recorder, Vec<Pen>)> {
+    match recorder.close(vec![in alloc; pen].ok()?) {
+        Err(CloseFault::PenMissing(recorder, pens)) => Some((recorder, pens)),
+        _ => None,
+    }
+}
+
+// Returns whether two pens recorded what becomes one history, after one of them was missing.
+fn is_closed(alloc: Global, recorder: Recorder, first: Pen, second: Pen) -> Option<bool> {
+    let (recorder, mut pens) = handed_back(alloc, recorder, first)?;
+    pens.push(second).ok()?;
+    let history = recorder.close(pens).ok()?;
+    Some(has_both(&history))
+}
+
+// Returns whether what two pens record becomes one history.
+fn is_recorded<R: Wait>(rt: &R, alloc: Global) -> Option<bool> {
+    let (recorder, mut pens) = Recorder::start(alloc, 2).ok()?;
+    let mut second = pens.pop()?;
+    let mut first = pens.pop()?;
+    if record_both(rt, alloc, &recorder, &mut first, &mut second)? {
+        is_closed(alloc, recorder, first, second)
+    } else {
+        Some(false)
+    }
+}
+
+#[test]
+fn pens_meet(rt: HostRuntime) {
+    assert!(rt; is_recorded(&rt, rt.alloc()) == Some(true));
+}
+
+// Returns whether a recording that is filled through one pen becomes a history of the most events.
+fn is_full<R: Wait>(rt: &R, alloc: Global) -> Option<bool> {
+    let (recorder, mut pens) = Recorder::start(alloc, 1).ok()?;
+    let mut pen = pens.pop()?;
+    let is_filled = is_filled(rt, alloc, &recorder, &mut pen)?;
+    let history = recorder.close(vec![in alloc; pen].ok()?).ok()?;
+    Some(is_filled && history.len() == 1_048_576)
+}
+
+#[test]
+fn full(rt: HostRuntime) {
+    assert!(rt; is_full(&rt, rt.alloc()) == Some(true));
+}
+
+// Calls a get through the only pen of a recorder, and returns the pen.
+fn pen_with_a_call<R: Wait>(rt: &R, alloc: Global) -> Option<Pen> {
+    let (recorder, mut pens) = Recorder::start(alloc, 1).ok()?;
+    let mut pen = pens.pop()?;
+    let id = DocId::new(alloc, "d").ok()?;
+    recorder.call(rt, &mut pen, id, Op::Get).ok()?;
+    Some(pen)
+}
+
+// Returns whether another recorder refuses the call's reply, and the pen at its end.
+fn is_refused<R: Wait>(rt: &R, alloc: Global) -> Option<bool> {
+    let mut pen = pen_with_a_call(rt, alloc)?;
+    let (other, _) = Recorder::start(alloc, 1).ok()?;
+    let reply = other.reply(rt, &mut pen, 0, Reply::Missing);
+    let closed = other.close(vec![in alloc; pen].ok()?);
+    Some(reply == Err(RecFault::Rewound(0)) && matches!(closed, Err(CloseFault::Mismatch)))
+}
+
+#[test]
+fn pen_of_another_recorder(rt: HostRuntime) {
+    assert!(rt; is_refused(&rt, rt.alloc()) == Some(true));
 }

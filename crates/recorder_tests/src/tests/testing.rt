@@ -1,122 +1,90 @@
-//! What tests share: a document, and the short form of a history.
+//! What tests of both recorders share.
 
 use doc_register::{Op, Reply};
-use events::{Event, History};
-use recorder::{CloseFault, RecFault, Recording};
+use events::History;
+use recorder::{RecFault, Recording};
 use std::alloc::Global;
-use std::process::Abort;
 use std::sync::Wait;
-use std::test::Fail;
 use version_pair::DocId;
 
-/// Returns the document `d`.
-pub fn document(alloc: Global) -> Result<DocId, Fail> {
-    Ok(DocId::new(alloc, "d")?)
-}
+// What a recorder says of an event: its number, or why it is refused.
+type Said = Result<u64, RecFault>;
 
-// The short form of an event.
-fn reported(alloc: Global, event: &Event) -> Result<String, Fail> {
-    Ok(match event {
-        Event::Call { no, shard, id, op } => {
-            let id = id.as_str();
-            format!(in alloc; "call {no} of {id} on {shard}: {op:?}")?
-        }
-        Event::Reply { no, reply } => format!(in alloc; "reply {no}: {reply:?}")?,
-        Event::Lost { no } => format!(in alloc; "lost {no}")?,
-    })
-}
-
-/// Returns the short forms of the events, each ended by a semicolon.
-pub fn events_reported(alloc: Global, history: &History) -> Result<String, Fail> {
-    let mut text = String::new(alloc);
-    for place in 0..history.len() {
-        let event = reported(alloc, history.event(place))?;
-        text.push_str(&event)?;
-        text.push_str("; ")?;
-    }
-    Ok(text)
-}
-
-/// Returns the short form of the result of closing.
-pub fn close_reported<R: Drop, P: Drop>(
+// Calls a get of `d`.
+fn called<X: Recording, R: Wait>(
+    rt: &R,
     alloc: Global,
-    closed: Result<History, CloseFault<R, P>>,
-) -> Result<String, Fail> {
-    match closed {
-        Ok(history) => events_reported(alloc, &history),
-        Err(CloseFault::PenMissing(_, pens)) => {
-            let count = pens.len();
-            Ok(format!(in alloc; "pen missing, {count} handed back")?)
-        }
-        Err(CloseFault::Mismatch) => Ok(String::from_str(alloc, "mismatch")?),
-        Err(CloseFault::NoMemory) => Ok(String::from_str(alloc, "no memory")?),
-    }
+    recorder: &X,
+    pen: &mut X::Pen,
+) -> Option<Said>
+    requires { X.has_pen recorder.now pen.old }
+    ensures { X.has_pen recorder.now pen.new }
+{
+    let id = DocId::new(alloc, "d").ok()?;
+    Some(recorder.call(rt, pen, id, Op::Get))
 }
 
-/// What two pens record in turns.
-pub const REPORTED: &str =
-    "call 0 of d on 0: Get; call 1 of d on 0: Get; reply 0: Missing; lost 1; ";
+// Ends the calls 0 and 1, which are those of two pens: the other pen's call, with a reply that a get can't
+// have, with its reply, once more, and by its loss.
+fn ended<X: Recording, R: Wait>(
+    rt: &R,
+    recorder: &X,
+    first: &mut X::Pen,
+    second: &mut X::Pen,
+) -> [Said; 5]
+    requires { X.has_pen recorder.now first.old × X.has_pen recorder.now second.old }
+    ensures { X.has_pen recorder.now first.new × X.has_pen recorder.now second.new }
+{
+    [
+        recorder.lost(rt, first, 1),
+        recorder.reply(rt, second, 1, Reply::Conflict),
+        recorder.reply(rt, first, 0, Reply::Missing),
+        recorder.reply(rt, first, 0, Reply::Missing),
+        recorder.lost(rt, second, 1),
+    ]
+}
 
-/// Two pens of any recorder record in turns what `REPORTED` says, with refusals in between. The number of each
-/// event is checked at its call.
-pub fn record_in_turns<X: Recording, R: Wait + Abort>(
+// What is said of that.
+const ENDED: [Said; 5] = [
+    Err(RecFault::NotMine),
+    Err(RecFault::Kind),
+    Ok(2),
+    Err(RecFault::Ended),
+    Ok(3),
+];
+
+/// Records two calls through two pens, and their endings. Returns whether each pen gets the result that it
+/// should.
+pub fn record_both<X: Recording, R: Wait>(
     rt: &R,
     alloc: Global,
     recorder: &X,
     first: &mut X::Pen,
     second: &mut X::Pen,
-) -> Result<(), Fail>
+) -> Option<bool>
     requires { X.has_pen recorder.now first.old × X.has_pen recorder.now second.old }
     ensures { X.has_pen recorder.now first.new × X.has_pen recorder.now second.new }
 {
-    assert_eq!(rt; recorder.call(rt, first, document(alloc)?, Op::Get), Ok(0));
-    assert_eq!(rt; recorder.call(rt, second, document(alloc)?, Op::Get), Ok(1));
-    assert_eq!(rt; recorder.reply(rt, first, 0, Reply::Missing), Ok(2));
-    assert_eq!(rt;
-        recorder.reply(rt, first, 0, Reply::Missing),
-        Err(RecFault::Ended)
-    );
-    assert_eq!(rt; recorder.lost(rt, first, 1), Err(RecFault::NotMine));
-    assert_eq!(rt;
-        recorder.reply(rt, second, 1, Reply::Conflict),
-        Err(RecFault::Kind)
-    );
-    assert_eq!(rt; recorder.lost(rt, second, 1), Ok(3));
-    assert_eq!(rt; recorder.lost(rt, second, 1), Err(RecFault::Ended));
-    Ok(())
+    let calls = [
+        called(rt, alloc, recorder, first)?,
+        called(rt, alloc, recorder, second)?,
+    ];
+    let endings = ended(rt, recorder, first, second);
+    Some(calls == [Ok(0), Ok(1)] && endings == ENDED)
 }
 
-/// Records gets of `d`, in turns answered and lost, through any recorder. Returns whether all were recorded.
-pub fn record_gets<X: Recording, R: Wait>(
-    rt: &R,
-    alloc: Global,
-    recorder: &X,
-    pen: &mut X::Pen,
-    count: usize,
-) -> bool
-    requires { X.has_pen recorder.now pen.old }
-    ensures { X.has_pen recorder.now pen.new }
-{
-    for turn in 0..count {
-        let Ok(id) = DocId::new(alloc, "d") else {
-            return false;
-        };
-        let Ok(no) = recorder.call(rt, pen, id, Op::Get) else {
-            return false;
-        };
-        let ended = if turn % 2 == 0 {
-            recorder.reply(rt, pen, no, Reply::Missing)
-        } else {
-            recorder.lost(rt, pen, no)
-        };
-        if ended.is_err() {
-            return false;
-        }
-    }
-    true
+/// Returns whether a history has the two calls, the reply and the loss, and nothing else.
+pub fn has_both(history: &History) -> bool {
+    history.len() == 4
+        && history.docs() == 1
+        && history.call(0) == Some(0)
+        && history.call(1) == Some(1)
+        && history.heard(0) == Some((2, Reply::Missing))
+        && history.ending(1) == Some(3)
+        && history.heard(1).is_none()
 }
 
-// Records one get of `d` with a reply. Returns the reply's number.
+// Records a get of `d` with a reply. Returns the reply's number.
 fn record_answered_get<X: Recording, R: Wait>(
     rt: &R,
     alloc: Global,
@@ -126,18 +94,12 @@ fn record_answered_get<X: Recording, R: Wait>(
     requires { X.has_pen recorder.now pen.old }
     ensures { X.has_pen recorder.now pen.new }
 {
-    let id = DocId::new(alloc, "d").ok()?;
-    let no = recorder.call(rt, pen, id, Op::Get).ok()?;
+    let no = called(rt, alloc, recorder, pen)?.ok()?;
     recorder.reply(rt, pen, no, Reply::Missing).ok()
 }
 
-/// Fills any recorder's recording by gets of `d`, each called and answered. Returns the last number.
-pub fn fill<X: Recording, R: Wait>(
-    rt: &R,
-    alloc: Global,
-    recorder: &X,
-    pen: &mut X::Pen,
-) -> Option<u64>
+// Fills a recording by gets of `d`, each called and answered. Returns the last number.
+fn fill<X: Recording, R: Wait>(rt: &R, alloc: Global, recorder: &X, pen: &mut X::Pen) -> Option<u64>
     requires { X.has_pen recorder.now pen.old }
     ensures { X.has_pen recorder.now pen.new }
 {
@@ -146,4 +108,42 @@ pub fn fill<X: Recording, R: Wait>(
         last = Some(record_answered_get(rt, alloc, recorder, pen)?);
     }
     last
+}
+
+// Calls a get through the pen of a full recording, ends call 0 once more, and calls another get.
+fn refused<X: Recording, R: Wait>(
+    rt: &R,
+    alloc: Global,
+    recorder: &X,
+    pen: &mut X::Pen,
+) -> Option<[Said; 3]>
+    requires { X.has_pen recorder.now pen.old }
+    ensures { X.has_pen recorder.now pen.new }
+{
+    let call = called(rt, alloc, recorder, pen)?;
+    let ending = recorder.reply(rt, pen, 0, Reply::Missing);
+    let further_call = called(rt, alloc, recorder, pen)?;
+    Some([call, ending, further_call])
+}
+
+// What is said of that.
+const REFUSED: [Said; 3] = [
+    Err(RecFault::Full),
+    Err(RecFault::Ended),
+    Err(RecFault::Full),
+];
+
+/// Fills a recording. Returns whether it then refuses each call, and the second ending of a call as before.
+pub fn is_filled<X: Recording, R: Wait>(
+    rt: &R,
+    alloc: Global,
+    recorder: &X,
+    pen: &mut X::Pen,
+) -> Option<bool>
+    requires { X.has_pen recorder.now pen.old }
+    ensures { X.has_pen recorder.now pen.new }
+{
+    let last = fill(rt, alloc, recorder, pen)?;
+    let refused = refused(rt, alloc, recorder, pen)?;
+    Some(last == 1_048_575 && refused == REFUSED)
 }

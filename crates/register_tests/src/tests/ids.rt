@@ -1,37 +1,34 @@
 //! Ids of documents.
 
-use std::test::Fail;
+use std::alloc::Global;
 use version_pair::{DocId, IdFault, IdText};
 
-#[test]
-fn id_lengths(rt: HostRuntime) -> Result<(), Fail> {
+// Returns the fault of the id of that many letters.
+fn fault_of_letters(alloc: Global, count: usize) -> Option<IdFault> {
     let letters = [b'd'; 513];
-    let longest = str::from_utf8(&letters[..512])?;
-    let too_long = str::from_utf8(&letters)?;
-    assert_eq!(rt; DocId::new(rt.alloc(), "").err(), Some(IdFault::Empty));
-    assert_eq!(rt; DocId::new(rt.alloc(), longest).err(), None);
-    assert_eq!(rt;
-        DocId::new(rt.alloc(), too_long).err(),
-        Some(IdFault::TooLong)
-    );
-    Ok(())
+    DocId::new(alloc, str::from_utf8(letters.get(..count)?).ok()?).err()
 }
 
 #[test]
-fn texts_of_ids(rt: HostRuntime) -> Result<(), Fail> {
+fn id_lengths(rt: HostRuntime) {
+    for (count, fault) in [
+        (0, Some(IdFault::Empty)),
+        (512, None),
+        (513, Some(IdFault::TooLong)),
+    ] {
+        assert!(rt; fault_of_letters(rt.alloc(), count) == fault, "{count}");
+    }
+}
+
+// Returns whether an id and its copy have the text that the id was made of.
+fn has_text(alloc: Global, text: &str) -> Option<bool> {
+    let id = IdText::new(text)?.to_id(alloc).ok()?;
+    let copy = id.copy().ok()?;
+    Some(copy == id && copy.as_str() == text && id.text().as_str() == text)
+}
+
+#[test]
+fn texts_of_ids(rt: HostRuntime) {
+    assert!(rt; has_text(rt.alloc(), "d") == Some(true));
     assert!(rt; IdText::new("").is_none());
-    let text = IdText::new("d").ok_or("an id")?;
-    let id = text.to_id(rt.alloc())?;
-    assert_eq!(rt; id.as_str(), "d");
-    assert_eq!(rt; id.text().as_str(), "d");
-    Ok(())
-}
-
-#[test]
-fn copies(rt: HostRuntime) -> Result<(), Fail> {
-    let id = DocId::new(rt.alloc(), "d").map_err(|_| "an id")?;
-    let copy = id.copy()?;
-    assert_eq!(rt; copy.as_str(), "d");
-    assert!(rt; copy == id);
-    Ok(())
 }

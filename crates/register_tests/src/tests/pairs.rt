@@ -1,26 +1,36 @@
 //! Pairs and their order.
 
-use std::test::Fail;
 use version_pair::Pair;
 
+// Returns whether the term comes before the sequence number in each order of pairs.
+fn is_ordered() -> Option<bool> {
+    let older = Pair::new(1, 7)?;
+    let newer = Pair::new(2, 5)?;
+    Some(older.is_below(newer) && older < newer && !newer.is_below(older))
+}
+
+// Returns the term and the sequence number of a pair.
+fn numbers() -> Option<[u64; 2]> {
+    let pair = Pair::new(2, 5)?;
+    Some([pair.term(), pair.seq()])
+}
+
 #[test]
-fn term_before_sequence_number(rt: HostRuntime) -> Result<(), Fail> {
-    let older = Pair::new(1, 7).ok_or("a pair")?;
-    let newer = Pair::new(2, 5).ok_or("a pair")?;
-    assert!(rt; older.is_below(newer));
-    assert!(rt; older < newer);
-    assert!(rt; !newer.is_below(older));
-    assert_eq!(rt; newer.term(), 2);
-    assert_eq!(rt; newer.seq(), 5);
-    Ok(())
+fn term_before_sequence_number(rt: HostRuntime) {
+    assert!(rt; is_ordered() == Some(true));
+    assert!(rt; numbers() == Some([2, 5]));
 }
 
 #[test]
 fn ranges(rt: HostRuntime) {
     let greatest = 9_223_372_036_854_775_807;
-    assert!(rt; Pair::new(greatest, greatest).is_some());
-    assert!(rt; Pair::new(1, 0).is_some());
-    assert!(rt; Pair::new(0, 0).is_none());
-    assert!(rt; Pair::new(greatest + 1, 0).is_none());
-    assert!(rt; Pair::new(1, greatest + 1).is_none());
+    for (term, seq, is_pair) in [
+        (greatest, greatest, true),
+        (1, 0, true),
+        (0, 0, false),
+        (greatest + 1, 0, false),
+        (1, greatest + 1, false),
+    ] {
+        assert_eq!(rt; Pair::new(term, seq).is_some(), is_pair);
+    }
 }

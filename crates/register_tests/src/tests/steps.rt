@@ -1,124 +1,70 @@
-//! Steps of a document.
+//! Steps of a document. The laws of `doc_register` prove more cases of the definition.
 
 use doc_register::{DocState, Op, Reply, step};
-use std::test::Fail;
 use version_pair::Pair;
 
-#[test]
-fn gets(rt: HostRuntime) -> Result<(), Fail> {
-    let first = Pair::new(1, 7).ok_or("a pair")?;
-    let second = Pair::new(2, 5).ok_or("a pair")?;
-    let gone = DocState::Gone(first);
-    let here = DocState::Here(first, 4);
-    let shown = Reply::Found { pair: first, k: 4 };
-    let later = Reply::Found { pair: second, k: 4 };
-    for (state, reply, hidden, want) in [
-        (DocState::Never, Reply::Missing, None, Some(DocState::Never)),
-        (gone, Reply::Missing, None, Some(gone)),
-        (gone, shown, None, None),
-        (here, shown, None, Some(here)),
-        (here, shown, Some(second), None),
-        (here, later, None, None),
-        (here, Reply::Missing, None, None),
-        (here, Reply::Conflict, None, None),
-    ] {
-        assert_eq!(rt;
-            step(state, &Op::Get, &reply, hidden),
-            want,
-            "{state:?} {reply:?}"
-        );
-    }
-    Ok(())
+// Returns whether gets show a document, deleted or there.
+fn are_shown(pair: Pair) -> bool {
+    let gone = DocState::Gone(pair);
+    let here = DocState::Here(pair, 4);
+    let found = Reply::Found { pair, k: 4 };
+    step(here, &Op::Get, &found, None) == Some(here)
+        && step(gone, &Op::Get, &Reply::Missing, None) == Some(gone)
+        && step(gone, &Op::Get, &found, None).is_none()
+        && step(here, &Op::Get, &Reply::Conflict, None).is_none()
 }
 
-#[test]
-fn performed_writes(rt: HostRuntime) -> Result<(), Fail> {
-    let first = Pair::new(1, 7).ok_or("a pair")?;
-    let second = Pair::new(2, 5).ok_or("a pair")?;
-    let gone = DocState::Gone(first);
+// Returns whether a write under the condition of the first pair is performed with the second one, also if
+// its reply is a conflict that hides it.
+fn is_swapped(first: Pair, second: Pair) -> bool {
     let here = DocState::Here(first, 4);
-    let plain = Op::Index { k: 6, cond: None };
     let swap = Op::Index {
         k: 6,
         cond: Some(first),
-    };
-    let delete = Op::Delete { cond: None };
-    let written = Some(DocState::Here(second, 6));
-    let deleted = Some(DocState::Gone(second));
-    let new = Reply::Indexed {
-        pair: second,
-        created: true,
     };
     let updated = Reply::Indexed {
         pair: second,
         created: false,
     };
-    let found = Reply::Deleted {
+    let written = Some(DocState::Here(second, 6));
+    step(here, &swap, &updated, None) == written
+        && step(here, &swap, &Reply::Conflict, Some(second)) == written
+        && step(here, &swap, &Reply::Conflict, None).is_none()
+}
+
+// Returns whether a write without a condition is performed with the second pair, and replaces the document.
+fn is_replaced(first: Pair, second: Pair) -> bool {
+    let here = DocState::Here(first, 4);
+    let plain = Op::Index { k: 6, cond: None };
+    let updated = Reply::Indexed {
         pair: second,
-        found: true,
+        created: false,
     };
-    let not_found = Reply::Deleted {
-        pair: second,
-        found: false,
-    };
-    for (state, op, reply, want) in [
-        (DocState::Never, plain, new, written),
-        (DocState::Never, plain, updated, None),
-        (gone, plain, new, written),
-        (DocState::Gone(second), plain, new, None),
-        (here, plain, updated, written),
-        (here, plain, new, None),
-        (here, plain, Reply::Missing, None),
-        (here, plain, found, None),
-        (here, swap, updated, written),
-        (DocState::Here(second, 4), swap, updated, None),
-        (gone, swap, new, None),
-        (here, delete, found, deleted),
-        (here, delete, not_found, None),
-        (DocState::Never, delete, not_found, deleted),
-        (gone, Op::Create { k: 6 }, new, written),
-        (here, Op::Create { k: 6 }, updated, None),
-    ] {
-        assert_eq!(rt;
-            step(state, &op, &reply, None),
-            want,
-            "{state:?} {op:?} {reply:?}"
-        );
-    }
-    assert_eq!(rt; step(DocState::Never, &plain, &new, Some(second)), None);
-    Ok(())
+    step(here, &plain, &updated, None) == Some(DocState::Here(second, 6))
+        && step(DocState::Never, &plain, &updated, None).is_none()
+        && step(DocState::Here(second, 4), &plain, &updated, None).is_none()
+}
+
+// Returns whether a write under another condition than the document's pair is refused.
+fn is_refused(first: Pair, second: Pair) -> bool {
+    let here = DocState::Here(first, 4);
+    let delete = Op::Delete { cond: Some(second) };
+    step(here, &delete, &Reply::Conflict, None) == Some(here)
+}
+
+// Returns whether all of that holds of two pairs.
+fn are_steps() -> Option<bool> {
+    let first = Pair::new(1, 7)?;
+    let second = Pair::new(2, 5)?;
+    Some(
+        are_shown(first)
+            && is_swapped(first, second)
+            && is_replaced(first, second)
+            && is_refused(first, second),
+    )
 }
 
 #[test]
-fn conflicts(rt: HostRuntime) -> Result<(), Fail> {
-    let first = Pair::new(1, 7).ok_or("a pair")?;
-    let second = Pair::new(2, 5).ok_or("a pair")?;
-    let gone = DocState::Gone(first);
-    let here = DocState::Here(first, 4);
-    let plain = Op::Index { k: 6, cond: None };
-    let swap = Op::Index {
-        k: 6,
-        cond: Some(first),
-    };
-    let delete = Op::Delete { cond: Some(second) };
-    for (state, op, hidden, want) in [
-        (DocState::Never, swap, None, Some(DocState::Never)),
-        (gone, swap, None, Some(gone)),
-        (here, delete, None, Some(here)),
-        (here, Op::Create { k: 6 }, None, Some(here)),
-        (here, swap, None, None),
-        (here, plain, None, None),
-        (DocState::Never, Op::Create { k: 6 }, None, None),
-        (here, swap, Some(second), Some(DocState::Here(second, 6))),
-        (here, plain, Some(second), Some(DocState::Here(second, 6))),
-        (here, swap, Some(first), None),
-        (here, delete, Some(second), None),
-    ] {
-        assert_eq!(rt;
-            step(state, &op, &Reply::Conflict, hidden),
-            want,
-            "{state:?} {op:?}"
-        );
-    }
-    Ok(())
+fn steps(rt: HostRuntime) {
+    assert!(rt; are_steps() == Some(true));
 }

@@ -1,12 +1,10 @@
 //! A disturbed group that threads share, compared with the one that one caller owns.
 
-use crate::tests::testing::{FAULTS, document, kth_call};
+use crate::tests::testing::{FAULTS, plays_alike};
 use disturbances::{Disturbance, DisturbedCore, DisturbedGroup};
 use repl_group::Fault;
 use std::alloc::Global;
 use std::sync::Wait;
-use std::test::Fail;
-use workload::{OwnedTarget, Target, Ticket};
 
 // All disturbances.
 const DISTURBANCES: [Disturbance; 4] = [
@@ -16,55 +14,40 @@ const DISTURBANCES: [Disturbance; 4] = [
     Disturbance::Storm,
 ];
 
-// Returns whether both report the same of a ticket, twenty times.
-fn polls_alike<R: Wait>(
-    rt: &R,
-    group: &DisturbedGroup,
-    core: &mut DisturbedCore,
-    ticket: Ticket,
-) -> bool {
-    for _ in 0..20 {
-        if group.poll(rt, ticket) != core.poll(ticket) {
-            return false;
-        }
-    }
-    true
-}
-
-// Returns whether both answer twenty calls alike, each polled twenty times, under a schedule of as many
-// incidents.
-fn plays_alike<R: Wait>(
+// Returns whether a group that is disturbed by twenty incidents answers as its core.
+fn is_its_core<R: Wait>(
     rt: &R,
     alloc: Global,
     copies: u32,
     fault: Fault,
     disturbance: Disturbance,
-) -> Result<bool, Fail> {
-    let group = DisturbedGroup::new(alloc, copies, fault, 9, disturbance, 20)?;
-    let mut core = DisturbedCore::new(alloc, copies, fault, 9, disturbance, 20)?;
-    let id = document(alloc)?;
-    for k in 0..20 {
-        let op = kth_call(k);
-        let ticket = group.submit(rt, &id, &op)?;
-        let is_alike = core.submit(&id, &op) == Ok(ticket);
-        if !is_alike || !polls_alike(rt, &group, &mut core, ticket) {
-            return Ok(false);
+) -> Option<bool> {
+    let group = DisturbedGroup::new(alloc, copies, fault, 9, disturbance, 20).ok()?;
+    let mut core = DisturbedCore::new(alloc, copies, fault, 9, disturbance, 20).ok()?;
+    plays_alike(rt, alloc, &group, &mut core)
+}
+
+// Returns whether that holds of groups of one to five copies.
+fn are_their_cores<R: Wait>(
+    rt: &R,
+    alloc: Global,
+    fault: Fault,
+    disturbance: Disturbance,
+) -> Option<bool> {
+    for copies in 1..=5 {
+        if !is_its_core(rt, alloc, copies, fault, disturbance)? {
+            return Some(false);
         }
     }
-    Ok(true)
+    Some(true)
 }
 
 #[test]
-fn disturbed_group_is_its_core_under_a_lock(rt: HostRuntime) -> Result<(), Fail> {
+fn disturbed_group_is_its_core_under_a_lock(rt: HostRuntime) {
     for fault in FAULTS {
-        for copies in [1, 2, 3, 5] {
-            for disturbance in DISTURBANCES {
-                assert!(rt;
-                    plays_alike(&rt, rt.alloc(), copies, fault, disturbance)?,
-                    "{fault:?}, {copies} copies, {disturbance:?}"
-                );
-            }
+        for disturbance in DISTURBANCES {
+            let are_alike = are_their_cores(&rt, rt.alloc(), fault, disturbance);
+            assert!(rt; are_alike == Some(true), "{fault:?}, {disturbance:?}");
         }
     }
-    Ok(())
 }

@@ -4,22 +4,26 @@ use Rattle.std.specs.declared.cmp.Ordering.{Ordering}
 use Rattle.std.specs.Ordering.{nat_cmp, ordering_then}
 use Rattle.doc_register.specs.declared.reply.Reply.{Reply}
 use Rattle.events.specs.declared.record.Rec.{Rec}
+use Rattle.ruled_out.specs.declared.answers.AnsweredRec.{AnsweredRec}
 
--- an answered call: the index of its reply, and the number of its record
-abbrev pub answer_at : ℕ → Option (ℕ × Reply) → List (ℕ × ℕ) → List (ℕ × ℕ)
+-- the answered call with this position of its reply and this number of its record
+abbrev pub answer_of : ℕ → ℕ → AnsweredRec
+answer_of y k = record { reply_at = y; rec = k }
+
+abbrev pub answer_at : ℕ → Option (ℕ × Reply) → List AnsweredRec → List AnsweredRec
 answer_at k None rest = rest
-answer_at k (Some heard) rest = (heard.0, k) ∷ rest
+answer_at k (Some heard) rest = answer_of heard.0 k ∷ rest
 
 -- the answered calls, if the first record is numbered k
-abbrev pub answers_from : ℕ → List Rec → List (ℕ × ℕ)
+abbrev pub answers_from : ℕ → List Rec → List AnsweredRec
 answers_from k [] = []
 answers_from k (r ∷ rs) = answer_at k r.heard (answers_from (suc k) rs)
 
 -- by the index of the reply, then by number
-abbrev pub by_reply : ℕ × ℕ → ℕ × ℕ → Ordering
-by_reply a b = ordering_then (nat_cmp a.0 b.0) (nat_cmp a.1 b.1)
+abbrev pub by_reply : AnsweredRec → AnsweredRec → Ordering
+by_reply a b = ordering_then (nat_cmp a.reply_at b.reply_at) (nat_cmp a.rec b.rec)
 
 -- the answered calls in response order
-pub record AreAnswers (records : List Rec) (answers : List (ℕ × ℕ)) : Type 0 where
+pub record AreAnswers (records : List Rec) (answers : List AnsweredRec) : Type 0 where
   pub all : IsPermutation (answers_from 0 records) answers
   pub in_order : IsSorted by_reply answers

@@ -6,7 +6,7 @@ use Rattle.version_pair.specs.declared.pair.Pair.{Pair}
 use Rattle.version_pair.specs.PairOrder.{IsBelow}
 use Rattle.events.specs.declared.record.Rec.{Rec}
 use Rattle.ruled_out.specs.Reported.{IsKnown, known_pairs}
-use Rattle.ruled_out.specs.Positions.{IsNext, gap_of, version_of}
+use Rattle.ruled_out.specs.Positions.{IsNext, taking_position, version_of}
 use Rattle.ruled_out.specs.aids.Above.{IsAbove}
 
 -- by term, then by sequence number
@@ -28,7 +28,7 @@ IsVersionOf records p (Some n) = IsKnown records p × (n ≡ version_of records 
 pub record HasRoom (records : List Rec) (lower : Option Pair) (n : ℕ) : Type 0 where
   pub pair : Pair
   pub unknown : ¬ IsKnown records pair
-  pub there : n ≡ gap_of records pair
+  pub there : n ≡ taking_position records pair
   pub behind : IsAbove lower pair
   pub next : (v : Pair) → IsKnown records v → IsAbove lower v → ¬ IsBelow v pair
 

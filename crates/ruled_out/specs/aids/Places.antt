@@ -2,7 +2,7 @@
 use Rattle.std.specs.Prelude.{◌≡◌, ◌+◌, ◌↔◌, ◌⊎◌, ℕ, Bool, IsTrue, List, Option, None, Some, MatchBool, slice_get, take}
 use Rattle.version_pair.specs.declared.pair.Pair.{Pair}
 use Rattle.events.specs.declared.record.Rec.{Rec}
-use Rattle.ruled_out.specs.declared.known.Place.{Place}
+use Rattle.ruled_out.specs.declared.known.PairPlace.{PairPlace}
 use Rattle.ruled_out.specs.declared.version.Version.{Version}
 use Rattle.ruled_out.specs.Reported.{IsGone, IsKnown, known_pairs}
 use Rattle.ruled_out.specs.Positions.{count_below, version_of}
@@ -10,7 +10,7 @@ use Rattle.ruled_out.specs.aids.KnownPairs.{HasRoom}
 use Rattle.ruled_out.specs.aids.Versions.{unreported, version_reported}
 
 -- that many known pairs are below the pair, and it is known or isn't
-pub record IsPlaceOf (records : List Rec) (p : Pair) (place : Place) : Type 0 where
+pub record IsPlaceOf (records : List Rec) (p : Pair) (place : PairPlace) : Type 0 where
   pub below : place.below ≡ count_below (known_pairs records) p
   pub known : IsTrue place.known ↔ IsKnown records p
 

@@ -4,7 +4,7 @@ use Rattle.version_pair.specs.declared.pair.Pair.{Pair}
 use Rattle.version_pair.specs.PairOrder.{IsBelow}
 use Rattle.doc_register.specs.declared.reply.Reply.{Reply}
 use Rattle.events.specs.declared.record.Rec.{Rec}
-use Rattle.ruled_out.specs.declared.walk.Walk.{Walk}
+use Rattle.ruled_out.specs.declared.walk.EventWalk.{EventWalk}
 use Rattle.ruled_out.specs.declared.walk.standing.Performed.{Performed}
 use Rattle.ruled_out.specs.Reported.{IsKnown, IsReportedOf}
 use Rattle.ruled_out.specs.Positions.{version_of}
@@ -16,13 +16,13 @@ use Rattle.ruled_out.specs.aids.Walks.{IsEarliest, IsWalked}
 use Rattle.ruled_out.specs.aids.Wild.{IsWritten}
 
 -- the walk knows where the document may be absent, and where it may exist, before the event
-pub record KnowsBefore (records : List Rec) (floor : ℕ → ℕ) (event : ℕ) (walk : Walk) : Type 0 where
+pub record KnowsBefore (records : List Rec) (floor : ℕ → ℕ) (event : ℕ) (walk : EventWalk) : Type 0 where
   pub versions : AreOf records walk.versions
   pub absent : (n : ℕ) → IsIn walk.absent.positions n ↔ MayBeAbsent records floor event n
   pub present : (n : ℕ) → IsIn walk.present.positions n ↔ MayBePresent records floor event n
 
 -- the document may be absent at the position, or may exist
-abbrev pub IsSomehow : Walk → ℕ → Type 0
+abbrev pub IsSomehow : EventWalk → ℕ → Type 0
 IsSomehow walk n = IsIn walk.absent.positions n ⊎ IsIn walk.present.positions n
 
 -- the document may be absent there, or may exist there, as asked
@@ -45,11 +45,11 @@ abbrev pub IsTaken : List Rec → List ℕ → Pair → Type 0
 IsTaken records floors v = IsReportedOf records v ⊎ IsWritten records floors v
 
 -- a call took each of the first known pairs, this many
-abbrev pub AreTaken : List Rec → Walk → ℕ → Type 0
+abbrev pub AreTaken : List Rec → EventWalk → ℕ → Type 0
 AreTaken records walk place = (j : ℕ) (v : Pair) → j < place → slice_get walk.versions.known.pairs.items j ≡ Some v → IsTaken records walk.floors.items v
 
 -- no call took the known pair of this number, if there is one
-abbrev pub IsUntaken : List Rec → Walk → ℕ → Type 0
+abbrev pub IsUntaken : List Rec → EventWalk → ℕ → Type 0
 IsUntaken records walk place = (v : Pair) → slice_get walk.versions.known.pairs.items place ≡ Some v → ¬ IsTaken records walk.floors.items v
 
 -- the greater of what was reached and the position
@@ -64,9 +64,9 @@ IsEarliestOf records floor i c y reply None = (n : ℕ) → ¬ MayStand records 
 IsEarliestOf records floor i c y reply (Some n) = IsEarliest records floor i c y reply n
 
 -- The call that was answered at y has its position; or the document is ruled out there.
-pub record Answers (records : List Rec) (y : ℕ) (new : Walk) : Type 0 where
+pub record Answers (records : List Rec) (y : ℕ) (new : EventWalk) : Type 0 where
   pub known : IsAt records new
   pub walked : IsWalked records (suc y) (floor_in new)
 
-abbrev pub AnswersOrEnds : List Rec → ℕ → Rec → Walk → Walk → Bool → Type 0
+abbrev pub AnswersOrEnds : List Rec → ℕ → Rec → EventWalk → EventWalk → Bool → Type 0
 AnswersOrEnds records y c old new result = MatchBool result (Answers records y new × (new.floors.items ≡ old.floors.items)) (IsRuledOut records c.no)

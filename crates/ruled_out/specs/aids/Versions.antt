@@ -5,20 +5,20 @@ use Rattle.doc_register.specs.declared.reply.Reply.{Reply}
 use Rattle.doc_register.specs.declared.reply.Reply.TheVariants.{Indexed, Deleted, Found, Missing, Conflict}
 use Rattle.doc_register.specs.Register.{pair_of_reply}
 use Rattle.events.specs.declared.record.Rec.{Rec}
-use Rattle.ruled_out.specs.declared.version.Number.{Number}
-use Rattle.ruled_out.specs.declared.version.Number.TheVariants.{Unseen, One, Several}
+use Rattle.ruled_out.specs.declared.version.FoundNumbers.{FoundNumbers}
+use Rattle.ruled_out.specs.declared.version.FoundNumbers.TheVariants.{Unseen, One, Several}
 use Rattle.ruled_out.specs.declared.version.Version.{Version}
 use Rattle.ruled_out.specs.Reported.{IsKnown, known_pairs, pair_shown}
 use Rattle.ruled_out.specs.Positions.{count_below}
 
 -- the number is the one that was found, or none was found
-abbrev pub allows : Number → ℕ → Bool
+abbrev pub allows : FoundNumbers → ℕ → Bool
 allows Unseen k = true
 allows (One n) k = n == k
 allows Several k = false
 
 -- the numbers that were found, with one more
-abbrev pub number_with : Number → ℕ → Number
+abbrev pub number_with : FoundNumbers → ℕ → FoundNumbers
 number_with Unseen k = One k
 number_with (One n) k = cond (n == k) (One n) Several
 number_with Several k = Several

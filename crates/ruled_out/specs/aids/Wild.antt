@@ -9,7 +9,7 @@ use Rattle.doc_register.specs.Register.{condition_of, value_of}
 use Rattle.events.specs.declared.record.Rec.{Rec}
 use Rattle.ruled_out.specs.Reported.{IsFoundWith, IsGone, IsKnown}
 use Rattle.ruled_out.specs.aids.Sets.{IsIn}
-use Rattle.ruled_out.specs.Positions.{IsNext, gap_of, version_of}
+use Rattle.ruled_out.specs.Positions.{IsNext, taking_position, version_of}
 
 -- a write under the condition, if any, may take the pair: the pair is above the condition, with no known pair
 -- between
@@ -20,7 +20,7 @@ Meets records condition p = (c : Pair) → condition ≡ Some c → IsBelow c p 
 pub record IsOffered (records : List Rec) (condition : Option Pair) (n : ℕ) : Type 0 where
   pub pair : Pair
   pub unknown : ¬ IsKnown records pair
-  pub there : n ≡ gap_of records pair
+  pub there : n ≡ taking_position records pair
   pub meets : Meets records condition pair
 
 -- the call, w, has no reply, and may have taken the pair
@@ -30,14 +30,14 @@ pub record HasTaken (records : List Rec) (floors : List ℕ) (w : Rec) (p : Pair
   pub floor : ℕ
   pub made : slice_get floors number ≡ Some floor
   pub unanswered : w.heard ≡ None
-  pub above : floor ≤ gap_of records p
+  pub above : floor ≤ taking_position records p
   pub meets : Meets records (condition_of w.op) p
 
 -- such a call may have taken an unknown pair that has the position n
 pub record HasChanged (records : List Rec) (floors : List ℕ) (n : ℕ) (w : Rec) : Type 0 where
   pub pair : Pair
   pub unknown : ¬ IsKnown records pair
-  pub there : n ≡ gap_of records pair
+  pub there : n ≡ taking_position records pair
   pub taken : HasTaken records floors w pair
 
 -- the set has the positions at which a document may be absent, by the replies alone

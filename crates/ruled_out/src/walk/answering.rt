@@ -12,12 +12,12 @@ ghost use Rattle.ruled_out.specs.aids.VersionsOf.{AreOf};
 ghost use Rattle.ruled_out.specs.Placings.{AreInOrder};
 ghost use Rattle.ruled_out.specs.aids.Walks.{IsAnswerAt, IsWalked};
 
-use super::Walk;
+use super::EventWalk;
 use doc_register::Reply;
 use events::Rec;
 use version_pair::Pair;
 
-impl Walk {
+impl EventWalk {
     // The earliest position of a call that was made when the document had reached the floor.
     fn earliest(&mut self, call: &Rec, reply: Reply, floor: usize) -> Option<usize>
         ensures known { (records : List Record) → IsAt records self.old → IsAt records self.new }

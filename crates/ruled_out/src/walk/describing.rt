@@ -1,10 +1,10 @@
 //! What the walk came to know, for people. No contract covers it.
 
-use super::Walk;
+use super::EventWalk;
 use crate::versions::Versions;
 use version_pair::Pair;
 
-impl Walk {
+impl EventWalk {
     /// Returns the position that the document has reached.
     pub fn reached(&self) -> usize {
         self.reached

@@ -6,10 +6,10 @@ ghost use Rattle.ruled_out.specs.Reported.{IsKnown};
 ghost use Rattle.ruled_out.specs.aids.States.{IsAt, KeepsFloors};
 ghost use Rattle.ruled_out.specs.aids.Standing.{AreTaken, IsReachedBy, IsTaken, IsUntaken};
 
-use super::Walk;
+use super::EventWalk;
 use version_pair::Pair;
 
-impl Walk {
+impl EventWalk {
     // Whether a reply says which call took the known pair, or one without a reply may have written it.
     fn is_taken(&self, pair: Pair) -> bool
         ensures { (records : List Record) → IsAt records self.now → IsKnown records pair

@@ -11,7 +11,7 @@ ghost use Rattle.ruled_out.specs.aids.Sets.{IsLeastFrom};
 ghost use Rattle.ruled_out.specs.aids.Standing.{IsMetAt, IsSomehow, KnowsBefore, MayBeSo};
 ghost use Rattle.ruled_out.specs.aids.VersionsOf.{AreOf};
 
-use super::Walk;
+use super::EventWalk;
 use doc_register::{Op, Reply};
 use events::Rec;
 use version_pair::Pair;
@@ -25,7 +25,7 @@ struct Performed {
     absent: bool,
 }
 
-impl Walk {
+impl EventWalk {
     // The least position from the floor on at which the document may be absent, or may exist.
     fn first_somehow(&self, floor: usize) -> Option<usize>
         ensures { IsLeastFrom (IsSomehow self.now) floor result }
@@ -61,7 +61,7 @@ impl Walk {
     {
         let from = floor.max(self.versions.after_known_below(write.pair));
         let n = self.first_so(write.absent, from)?;
-        if n <= self.versions.known.gap_of(write.pair) && self.is_met(write, n) {
+        if n <= self.versions.known.taking_position(write.pair) && self.is_met(write, n) {
             Some(n)
         } else {
             None

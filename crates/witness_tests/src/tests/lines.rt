@@ -1,120 +1,69 @@
-//! Witness texts read line by line.
+//! Witness texts read whole and line by line.
 
-use crate::tests::notation::same;
 use api_lines::lines::first_line;
-use api_lines::{ReadFault, TextFault};
+use api_lines::{ReadFault, TextCause, TextFault};
 use places::Place;
 use std::alloc::Global;
-use std::test::Fail;
-use version_pair::DocId;
+use version_pair::{DocId, Pair};
 use witness::{WitnessReader, read_witness};
 
-const BLANK_LINES: &str = "\n \t\r\n\n   ";
+const TWO_DOCUMENTS: &str =
+    "\r\n{\"doc\":\"a\"}\r\n \t\n{\"rec\" : 7} \r\n\n{\"doc\":\"b\"}\n{\"rec\":1,\"seq\":4,\"term\":2}";
 
-const LOST_WRITE_EXPLAINS_CONFLICT: &str = r#"{"doc":"d"}
-{"rec":0}
-{"rec":1,"seq":2,"term":3}
-{"rec":2}
-"#;
+const HALF: &str = "\n \t\r\n{\"doc\":\"d\"}\n\n{\"rec\":0,\"seq\":1}\n{\"rec\":";
 
-const SCARCE_NUMBER_ENOUGH: &str = r#"{"doc":"a"}
-{"rec":0}
-{"rec":1,"seq":2,"term":1}
-{"rec":2}
-{"doc":"b"}
-{"rec":0}
-{"rec":1,"seq":4,"term":1}
-{"rec":2}
-"#;
+// What is read of a text.
+type Documents = Vec<(DocId, Vec<Place>)>;
 
-const DOCUMENT_TWICE: &str = r#"{"doc":"a"}
-{"rec":0}
-{"rec":1}
-{"doc":"a"}
-{"rec":0}
-{"rec":1}
-"#;
-
-const WITH_BLANK_LINES: &str =
-    "\r\n{\"doc\":\"a\"}\r\n \t\n{\"doc\":\"b\"}\n\n\t {\"rec\" : 7} \r\n\n{\"doc\":\"c\"}";
-
-// Returns the documents with their places, as texts.
-fn said(alloc: Global, documents: &[(DocId, Vec<Place>)]) -> Result<String, Fail> {
-    let mut said = String::new(alloc);
-    for document in documents {
-        let id = document.0.as_str();
-        said.push_str(&format!(in alloc; "[{id}]")?)?;
-        for place in &document.1 {
-            said.push_str(&place_said(alloc, *place)?)?;
-        }
-    }
-    Ok(said)
+// Returns whether this is the only place of the document of this id.
+fn is_document(document: &(DocId, Vec<Place>), id: &str, place: Place) -> bool {
+    document.0.as_str() == id && document.1.as_slice() == [place].as_slice()
 }
 
-fn place_said(alloc: Global, place: Place) -> Result<String, Fail> {
-    let rec = place.rec;
-    match place.pair {
-        None => Ok(format!(in alloc; " {rec}")?),
-        Some(pair) => {
-            let seq = pair.seq();
-            let term = pair.term();
-            Ok(format!(in alloc; " {rec} (seq {seq} term {term})")?)
-        }
+// Returns whether these are the two documents.
+fn are_two(documents: &[(DocId, Vec<Place>)]) -> bool {
+    let first = Place { rec: 7, pair: None };
+    let second = Place {
+        rec: 1,
+        pair: Pair::new(2, 4),
+    };
+    match documents {
+        [one, other] => is_document(one, "a", first) && is_document(other, "b", second),
+        _ => false,
     }
 }
 
-// Returns the documents of a text, or the first line that is refused with its cause. If memory is refused,
-// the test ends with an error.
-fn reported(alloc: Global, text: &[u8]) -> Result<String, Fail> {
-    match read_witness(alloc, text) {
-        Ok(documents) => said(alloc, &documents),
-        Err(ReadFault::Text(TextFault { line, cause })) => {
-            Ok(format!(in alloc; "line {line}: {cause:?}")?)
-        }
-        Err(ReadFault::NoMemory) => Err("no memory".into()),
-    }
-}
-
-// Returns what a reader reports of the lines of a text, handed over one by one: the documents, or the line
-// that is refused. An open bracket before each line is refused and changes nothing.
-fn reported_by_line(alloc: Global, text: &str) -> Result<String, Fail> {
+// Returns what a reader reports of the lines of a text, handed over one by one. An open bracket before each
+// line is refused, and changes nothing.
+fn read_by_line(alloc: Global, text: &str) -> Result<Documents, ReadFault> {
     let mut reader = WitnessReader::new(alloc);
     let mut rest = text.as_bytes();
     for _ in 0..20 {
         if rest.is_empty() {
-            return said(alloc, &reader.finish());
-        }
-        if reader.line(b"[").is_ok() {
-            return Err("a bracket was taken".into());
+            break;
         }
         let (line, after) = first_line(rest);
-        match reader.line(line) {
-            Ok(()) => rest = after,
-            Err(ReadFault::Text(TextFault { line, cause })) => {
-                return Ok(format!(in alloc; "line {line}: {cause:?}")?);
-            }
-            Err(ReadFault::NoMemory) => return Err("no memory".into()),
-        }
+        let _ = reader.line(b"[");
+        reader.line(line)?;
+        rest = after;
     }
-    Err("too many lines".into())
+    Ok(reader.finish())
+}
+
+// Returns whether the two documents are read whole and by line.
+fn are_read(alloc: Global) -> Option<bool> {
+    let whole = read_witness(alloc, TWO_DOCUMENTS.as_bytes()).ok()?;
+    let by_line = read_by_line(alloc, TWO_DOCUMENTS).ok()?;
+    Some(are_two(&whole) && are_two(&by_line))
 }
 
 #[test]
-fn lines_give_what_their_text_gives(rt: HostRuntime) -> Result<(), Fail> {
-    for text in [
-        "",
-        BLANK_LINES,
-        LOST_WRITE_EXPLAINS_CONFLICT,
-        SCARCE_NUMBER_ENOUGH,
-        DOCUMENT_TWICE,
-        WITH_BLANK_LINES,
-        "{\"rec\":0}\n",
-        "{\"doc\":\"d\"}\n{\"rec\":0,\"seq\":1}\n",
-        "\n \t\r\n{\"doc\":\"d\"}\n\n{\"rec\":-1}\n{\"rec\":",
-    ] {
-        let want = reported(rt.alloc(), text.as_bytes())?;
-        let got = reported_by_line(rt.alloc(), text)?;
-        same(text, got.as_str(), want.as_str())?;
-    }
-    Ok(())
+fn lines_give_what_their_text_gives(rt: HostRuntime) {
+    assert!(rt; are_read(rt.alloc()) == Some(true));
+    let fault = ReadFault::Text(TextFault {
+        line: 5,
+        cause: TextCause::Half,
+    });
+    assert!(rt; read_witness(rt.alloc(), HALF.as_bytes()).err() == Some(fault));
+    assert!(rt; read_by_line(rt.alloc(), HALF).err() == Some(fault));
 }

@@ -1,166 +1,151 @@
-use crate::tests::notation;
-use doc_register::Conflicts;
+//! Places that no history leads to.
+
+use doc_register::{Conflicts, Op, Reply};
 use events::Rec;
 use places::{Broken, DocWitness, Place};
 use std::alloc::Global;
-use std::test::Fail;
-use version_pair::DocId;
+use version_pair::{DocId, Pair};
 use witness::write_witness;
 
-const MIXED: &str =
-    "0 index 1, 1 created 1 0; 2 get; 3 delete; 4 get, 5 found 1 0 1; 6 get, 7 missing";
-
-// The result of a check: the witness, or the fault with all that was handed in.
-type Checked = Result<DocWitness, (Broken, DocId, Vec<Rec>, Vec<Place>)>;
-
-// Returns the result of the check of "d" with these records and places.
+// Returns the witness of "d" with these records and places, or their first fault.
 fn checked(
     alloc: Global,
     records: &[Rec],
     places: &[Place],
     conflicts: Conflicts,
-) -> Result<Checked, Fail> {
-    let id = DocId::new(alloc, "d")?;
-    let records = records.to_vec(alloc)?;
-    let places = places.to_vec(alloc)?;
-    Ok(DocWitness::check(alloc, id, records, places, conflicts))
-}
-
-// Returns whether these are "d" and its records and places.
-fn are_all(id: &DocId, kept: (&[Rec], &[Place]), records: &[Rec], places: &[Place]) -> bool {
-    id.as_str() == "d" && kept.0 == records && kept.1 == places
-}
-
-// Returns what the check reports of these records and places: "valid" if it makes a witness, which must have
-// them all; otherwise the fault, if all are handed back. If memory is refused, all are handed back too, and
-// the test ends with an error.
-fn reported(
-    alloc: Global,
-    records: &[Rec],
-    places: &[Place],
-    conflicts: Conflicts,
-) -> Result<String, Fail> {
-    match checked(alloc, records, places, conflicts)? {
-        Ok(witness) => {
-            let kept = (witness.records(), witness.places());
-            if are_all(witness.id(), kept, records, places) && witness.conflicts() == conflicts {
-                Ok(format!(in alloc; "valid")?)
-            } else {
-                Err("a witness of other records or places".into())
-            }
-        }
-        Err((fault, id, record_list, place_list)) => {
-            let kept = (record_list.as_slice(), place_list.as_slice());
-            if are_all(&id, kept, records, places) && fault != Broken::NoMemory {
-                Ok(format!(in alloc; "{fault:?}")?)
-            } else {
-                Err("no memory, or not all handed back".into())
-            }
-        }
-    }
-}
-
-// Asserts what is reported of records and places.
-fn is_reported(
-    alloc: Global,
-    records: &str,
-    places: &str,
-    conflicts: Conflicts,
-    want: &str,
-) -> Result<(), Fail> {
-    let record_list = notation::records(alloc, records)?;
-    let place_list = notation::places(alloc, places)?;
-    let got = reported(alloc, &record_list, &place_list, conflicts)?;
-    notation::same(places, got.as_str(), want)
-}
-
-// Asserts what is reported of records and places: if a conflict is read plainly, and if it may hide a pair.
-fn all_reported(alloc: Global, rows: &[(&str, &str, &str, &str)]) -> Result<(), Fail> {
-    for (records, places, plain, maybe) in rows {
-        is_reported(alloc, records, places, Conflicts::Plain, plain)?;
-        is_reported(alloc, records, places, Conflicts::Maybe, maybe)?;
-    }
-    Ok(())
-}
-
-// A reply may be at the position of a call, but not before it.
-#[test]
-fn places_of_replies(rt: HostRuntime) -> Result<(), Fail> {
-    all_reported(
-        rt.alloc(),
-        &[
-            (
-                "4 get, 3 missing; 1 get, 6 missing",
-                "0; 1",
-                "Late(0)",
-                "Late(0)",
-            ),
-            (
-                "4 get, 4 missing; 1 get, 4 missing",
-                "0; 1",
-                "valid",
-                "valid",
-            ),
-            (
-                "4 get, 5 missing; 1 get, 3 missing",
-                "0; 1",
-                "Late(1)",
-                "Late(1)",
-            ),
-            (
-                "4 get, 5 missing; 6 get, 5 missing",
-                "0; 1",
-                "Late(1)",
-                "Late(1)",
-            ),
-            (
-                "4 get, 5 missing; 6 get, 6 missing",
-                "0; 1",
-                "valid",
-                "valid",
-            ),
-        ],
-    )
-}
-
-// A document without calls, the greatest number of a record, and a create whose reply says that it updated.
-#[test]
-fn places_of_no_history(rt: HostRuntime) -> Result<(), Fail> {
-    all_reported(
-        rt.alloc(),
-        &[
-            ("", "", "valid", "valid"),
-            ("", "0", "Stranger(0)", "Stranger(0)"),
-            (
-                MIXED,
-                "18446744073709551615 1 0",
-                "Stranger(0)",
-                "Stranger(0)",
-            ),
-            (
-                "0 create 4, 1 created 1 0; 2 create 4, 3 updated 1 1; 4 delete, 5 deleted 1 1",
-                "0; 1; 2",
-                "Illegal(1)",
-                "Illegal(1)",
-            ),
-        ],
-    )
-}
-
-// Returns a witness of a document without calls.
-fn empty_witness(alloc: Global) -> Result<DocWitness, Fail> {
-    match checked(alloc, &[], &[], Conflicts::Plain)? {
+) -> Result<DocWitness, Broken> {
+    let Ok(id) = DocId::new(alloc, "d") else {
+        return Err(Broken::NoMemory);
+    };
+    let Ok(records) = Vec::from_slice(alloc, records) else {
+        return Err(Broken::NoMemory);
+    };
+    let Ok(places) = Vec::from_slice(alloc, places) else {
+        return Err(Broken::NoMemory);
+    };
+    match DocWitness::check(alloc, id, records, places, conflicts) {
         Ok(witness) => Ok(witness),
-        Err(_) => Err("a witness".into()),
+        Err(refused) => Err(refused.0),
     }
 }
 
-// One document in two witnesses is written twice.
+// Returns the first fault of places, if there is one, in both readings of a conflict.
+fn faults(alloc: Global, records: &[Rec], places: &[Place]) -> [Option<Broken>; 2] {
+    [
+        checked(alloc, records, places, Conflicts::Plain).err(),
+        checked(alloc, records, places, Conflicts::Maybe).err(),
+    ]
+}
+
+// Returns the place of a record, without a pair.
+fn placed(rec: usize) -> Place {
+    Place { rec, pair: None }
+}
+
+// Returns the record of a get that missed its document.
+fn missed(call_at: usize, heard_at: usize) -> Rec {
+    Rec {
+        no: call_at as u64,
+        op: Op::Get,
+        call_at,
+        heard: Some((heard_at, Reply::Missing)),
+    }
+}
+
+// The positions of the call and of the reply of two gets, and the fault if they take their places in this
+// order: a reply may be at the position of a call, but not before it.
+const GETS: [([usize; 2], [usize; 2], Option<Broken>); 5] = [
+    ([4, 3], [1, 6], Some(Broken::Late(0))),
+    ([4, 4], [1, 4], None),
+    ([4, 5], [1, 3], Some(Broken::Late(1))),
+    ([4, 5], [6, 5], Some(Broken::Late(1))),
+    ([4, 5], [6, 6], None),
+];
+
 #[test]
-fn a_document_twice(rt: HostRuntime) -> Result<(), Fail> {
-    let alloc = rt.alloc();
-    let witnesses = vec![in alloc; empty_witness(alloc)?, empty_witness(alloc)?]?;
-    let text = write_witness(alloc, &witnesses)?;
-    assert!(rt; text.as_slice() == b"{\"doc\":\"d\"}\n{\"doc\":\"d\"}\n".as_slice());
-    Ok(())
+fn places_of_replies(rt: HostRuntime) {
+    let places = [placed(0), placed(1)];
+    for (first, second, fault) in GETS {
+        let records = [missed(first[0], first[1]), missed(second[0], second[1])];
+        assert!(rt; faults(rt.alloc(), &records, &places) == [fault, fault]);
+    }
+}
+
+// Returns the faults of a document without calls.
+fn faults_of_no_calls(alloc: Global, places: &[Place]) -> [Option<Broken>; 2] {
+    faults(alloc, &[], places)
+}
+
+// A document without calls has no place, not even one of the greatest number.
+#[test]
+fn places_of_no_calls(rt: HostRuntime) {
+    for rec in [0, usize::MAX] {
+        let stranger = Some(Broken::Stranger(0));
+        assert!(rt; faults_of_no_calls(rt.alloc(), &[placed(rec)]) == [stranger, stranger]);
+    }
+}
+
+// Returns the faults of a create, and of another one whose reply says that it updated the document.
+fn faults_of_creates(alloc: Global) -> Option<[Option<Broken>; 2]> {
+    let op = Op::Create { k: 4 };
+    let created = Reply::Indexed {
+        pair: Pair::new(1, 0)?,
+        created: true,
+    };
+    let updated = Reply::Indexed {
+        pair: Pair::new(1, 1)?,
+        created: false,
+    };
+    let records = [
+        Rec {
+            no: 0,
+            op,
+            call_at: 0,
+            heard: Some((1, created)),
+        },
+        Rec {
+            no: 2,
+            op,
+            call_at: 2,
+            heard: Some((3, updated)),
+        },
+    ];
+    Some(faults(alloc, &records, &[placed(0), placed(1)]))
+}
+
+#[test]
+fn create_that_updates(rt: HostRuntime) {
+    let illegal = Some(Broken::Illegal(1));
+    assert!(rt; faults_of_creates(rt.alloc()) == Some([illegal, illegal]));
+}
+
+// Returns whether a witness has what it was made of.
+fn is_kept(alloc: Global) -> Option<bool> {
+    let records = [missed(0, 1)];
+    let places = [placed(0)];
+    let witness = checked(alloc, &records, &places, Conflicts::Maybe).ok()?;
+    let is_of_d = witness.id().as_str() == "d" && witness.conflicts() == Conflicts::Maybe;
+    Some(
+        is_of_d && witness.records() == records.as_slice() && witness.places() == places.as_slice(),
+    )
+}
+
+// Returns the witness of a document without calls.
+fn empty_witness(alloc: Global) -> Result<DocWitness, Broken> {
+    checked(alloc, &[], &[], Conflicts::Plain)
+}
+
+// Returns whether one document in two witnesses is written twice.
+fn is_written_twice(alloc: Global) -> Option<bool> {
+    let mut witnesses = Vec::new(alloc);
+    witnesses.push(empty_witness(alloc).ok()?).ok()?;
+    witnesses.push(empty_witness(alloc).ok()?).ok()?;
+    let text = write_witness(alloc, &witnesses).ok()?;
+    Some(text.as_slice() == "{\"doc\":\"d\"}\n{\"doc\":\"d\"}\n".as_bytes())
+}
+
+#[test]
+fn witnesses(rt: HostRuntime) {
+    assert!(rt; is_kept(rt.alloc()) == Some(true));
+    assert!(rt; is_written_twice(rt.alloc()) == Some(true));
 }

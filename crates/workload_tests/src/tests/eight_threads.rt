@@ -2,13 +2,13 @@
 
 ghost use Rattle.std.specs.Prelude.{◌<◌, length};
 
-use crate::tests::testing::{Slow, alike};
+use crate::tests::testing::{Pacing, alike, recorded_on_threads};
 use doc_register::Op;
 use events::{Event, History};
-use recorder::{ClockRecorder, CloseFault};
-use std::sync::atomic::AtomicU64;
-use std::test::Fail;
-use workload::{Kind, Progress, run_clients};
+use std::alloc::Global;
+use std::sync::Wait;
+use std::thread::Threads;
+use workload::{Kind, Turn};
 
 // The number of clients, and the number of writes that each asks for: with their endings each client records
 // 100,000 events.
@@ -17,7 +17,7 @@ const CLIENTS: usize = 8;
 const WRITES: usize = 50_000;
 
 // What a walk over the events knows of a client: the number of writes that it asked for, and its open call.
-#[derive(Clone, Copy, Debug, Drop)]
+#[derive(Clone, Copy, PartialEq)]
 struct Seen {
     writes: u64,
     open: Option<u64>,
@@ -70,30 +70,42 @@ fn is_next(seen: &mut [Seen; CLIENTS], history: &History, place: usize) -> bool
     }
 }
 
-#[test]
-fn eight_threads(rt: HostRuntime) -> Result<(), Fail> {
-    let alloc = rt.alloc();
-    let plan = alike(alloc, CLIENTS, WRITES, Kind::Put)?;
-    let silent = Slow {
-        waits: AtomicU64::new(0),
-        end: Progress::Unknown,
+// Returns what the clients record at a target that reports no outcome.
+fn history_of<R: Threads + Wait + Sync>(rt: &R, alloc: Global) -> Option<History> {
+    let turn = Turn {
+        doc: 0,
+        kind: Kind::Put,
     };
-    let (recorder, pens) = ClockRecorder::start(alloc, CLIENTS)?;
-    assert_eq!(rt; plan.clients(), pens.len());
-    let pens = run_clients(&rt, alloc, &plan, &silent, &recorder, pens, 1)?;
-    let Ok(history) = recorder.close(pens) else {
-        return Err("a history".into());
-    };
-    assert_eq!(rt; history.len(), 2 * CLIENTS * WRITES);
+    let plan = alike(alloc, CLIENTS, WRITES, turn)?;
+    recorded_on_threads(rt, alloc, &plan, &Pacing::new(&[]), 1)
+}
+
+// Returns what is known of the clients after all events, each of which is the next one of its client.
+fn clients_of(history: &History) -> Option<[Seen; CLIENTS]> {
     let mut seen = [Seen {
         writes: 0,
         open: None,
     }; CLIENTS];
     for place in 0..history.len() {
-        assert!(rt; is_next(&mut seen, &history, place), "{place}");
+        if !is_next(&mut seen, history, place) {
+            return None;
+        }
     }
-    for seen in &seen {
-        assert_eq!(rt; (seen.writes, seen.open), (WRITES as u64, None));
-    }
-    Ok(())
+    Some(seen)
+}
+
+// Returns whether each client's writes are recorded in their order, and all of them ended.
+fn are_recorded<R: Threads + Wait + Sync>(rt: &R, alloc: Global) -> Option<bool> {
+    let history = history_of(rt, alloc)?;
+    let clients = clients_of(&history)?;
+    let done = Seen {
+        writes: WRITES as u64,
+        open: None,
+    };
+    Some(history.len() == 2 * CLIENTS * WRITES && clients == [done; CLIENTS])
+}
+
+#[test]
+fn eight_threads(rt: HostRuntime) {
+    assert!(rt; are_recorded(&rt, rt.alloc()) == Some(true));
 }

@@ -83,6 +83,8 @@ complete -c casbench -n '__casbench_lacks explain value --conflicts' -l conflict
 complete -c casbench -n '__casbench_lacks explain value --workers' -l workers -x -d 'How many workers search the documents, 1 to 16; 1 by default'
 complete -c casbench -n '__casbench_lacks explain flag --rule-out' -l rule-out -d 'If no order is found, look for a document that no order explains, whatever became of lost calls'
 complete -c casbench -n '__casbench_lacks explain value --html' -l html -r -F -d 'Write the explanation to this file too, as a page of HTML'
+complete -c casbench -n '__casbench_lacks explain value --document' -l document -x -d 'Draw the calls of the document with this id on the page'
+complete -c casbench -n '__casbench_lacks explain value --lines' -l lines -x -d 'Draw no calls but those on the lines from A to B of the text'
 complete -c casbench -n '__casbench_lacks explain flag -h --help' -s h -l help -d 'Print help'
-complete -c casbench -n '__casbench_wants explain 1 --conflicts --workers --html' -F
+complete -c casbench -n '__casbench_wants explain 1 --conflicts --workers --html --document --lines' -F
 complete -c casbench -n '__casbench_wants help 1' -a 'check witness verify bulk run explain help'

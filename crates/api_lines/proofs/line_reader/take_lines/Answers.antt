@@ -120,17 +120,17 @@ ends_empty takes start input old rest chunk r (Err fault) before kept end = tt
 pub returns-clause-reported : goal.returns-clause-reported
 returns-clause-reported g c =
     ends g.L.LineReader.takes (g.L.LineReader.reached c.args.reader.now).state (g.R.Read.remaining c.args.input.now)
-    (prepend_known c.loop.chunk (g.R.Read.remaining c.loop.input)) (g.L.LineReader.reached c.loop.reader) c.end_of_lines.result c.loop.invariant.read
-    (omega (arith, c.loop-test.false, c.loop.auto.counter-end, c.loop.invariant.count)) c.end_of_lines.ensures.end c.end_of_lines.ensures.past
+    (prepend_known c.loop.chunk (g.R.Read.remaining c.loop.input)) (g.L.LineReader.reached c.loop.reader) c.refuse_line_past_limit.result c.loop.invariant.read
+    (omega (arith, c.loop-test.false, c.loop.auto.counter-end, c.loop.invariant.count)) c.refuse_line_past_limit.ensures.end c.refuse_line_past_limit.ensures.past
 
 pub returns-clause-taken : goal.returns-clause-taken
 returns-clause-taken g c =
     on_kept g.L.LineReader.takes (g.L.LineReader.reached c.args.reader.now).state (g.R.Read.remaining c.args.input.now)
-    (prepend_known c.loop.chunk (g.R.Read.remaining c.loop.input)) (g.R.Read.remaining c.end_of_lines.new.input) c.end_of_lines.new.chunk
-    (g.L.LineReader.reached c.loop.reader) c.loop.invariant.read c.end_of_lines.ensures.kept c.end_of_lines.ensures.brought
+    (prepend_known c.loop.chunk (g.R.Read.remaining c.loop.input)) (g.R.Read.remaining c.refuse_line_past_limit.new.input) c.refuse_line_past_limit.new.chunk
+    (g.L.LineReader.reached c.loop.reader) c.loop.invariant.read c.refuse_line_past_limit.ensures.kept c.refuse_line_past_limit.ensures.brought
 
 pub returns-clause-end : goal.returns-clause-end
 returns-clause-end g c =
     ends_empty g.L.LineReader.takes (g.L.LineReader.reached c.args.reader.now).state (g.R.Read.remaining c.args.input.now)
-    (prepend_known c.loop.chunk (g.R.Read.remaining c.loop.input)) (g.R.Read.remaining c.end_of_lines.new.input) c.end_of_lines.new.chunk
-    (g.L.LineReader.reached c.loop.reader) c.end_of_lines.result c.loop.invariant.read c.end_of_lines.ensures.kept c.end_of_lines.ensures.end
+    (prepend_known c.loop.chunk (g.R.Read.remaining c.loop.input)) (g.R.Read.remaining c.refuse_line_past_limit.new.input) c.refuse_line_past_limit.new.chunk
+    (g.L.LineReader.reached c.loop.reader) c.refuse_line_past_limit.result c.loop.invariant.read c.refuse_line_past_limit.ensures.kept c.refuse_line_past_limit.ensures.end

@@ -10,4 +10,4 @@ pub returns-in-Some-clause-read : goal.returns-in-Some-clause-read
 returns-in-Some-clause-read c =
     let read = c.in-Some.ensures in
     let n = c.in-Some.number in
-    (number (unsigned n), ap (λ ts. converted of_json (value c.args.depth ts)) read.1 ∙ value-number c.args.depth read.0 n (tokens_left c.usual_whole.new.self) read.2, refl)
+    (number (unsigned n), ap (λ ts. converted of_json (value c.args.depth ts)) read.1 ∙ value-number c.args.depth read.0 n (tokens_left c.whole.new.self) read.2, refl)

@@ -8,4 +8,4 @@ use Rattle.api_lines.proofs.token_field.text_field.Goals as goal
 
 pub returns-in-Some-clause-read : goal.returns-in-Some-clause-read
 returns-in-Some-clause-read c =
-    (string _, ap (λ ts. converted of_json (value c.args.depth ts)) c.in-Some.ensures ∙ value-string c.args.depth _ (tokens_left c.usual_text.new.self), refl)
+    (string _, ap (λ ts. converted of_json (value c.args.depth ts)) c.in-Some.ensures ∙ value-string c.args.depth _ (tokens_left c.text.new.self), refl)

@@ -1,6 +1,7 @@
 use Rattle.std.proofs.Common.{◌≡◌, ◌∙◌, ◌++◌, ◌∷◌, ℕ, [], List, arith, ap, length, map, subst, sym}
 use Rattle.std.proofs.lemmas.List.{append_assoc, append-nil, map-append}
-use Rattle.casbench.specs.Each.{AnswersEach, Named, named_of, nothing, one_more}
+use Rattle.casbench.proofs.EachLemmas.{nothing, one_more}
+use Rattle.casbench.specs.Each.{AnswersEach, Named, named_of}
 use Rattle.casbench.specs.declared.outcome.Outcome.{Outcome}
 use Rattle.casbench.specs.declared.outcome.Outcome.TheVariants.{Answered}
 use Rattle.doc_register.specs.declared.state.Conflicts.{Conflicts}
@@ -29,7 +30,8 @@ loop-text-init g c = (
   tt,
   tt,
   c.into_iter-text-iterator.ensures.into_iter_gives.0,
-  subst (λ ls. AnswersEach c.args.ruling_out c.args.conflicts c.args.at_least [] (Answered Yes) ls) (sym c.new-lines.ensures.items) nothing,
+  subst (λ ls. AnswersEach c.args.options.ruling_out c.args.options.conflicts c.args.at_least [] (Answered Yes) ls) (sym c.new-lines.ensures.items)
+      (nothing c.args.options.ruling_out c.args.options.conflicts c.args.at_least),
 )
 
 pub loop-text-preserved : goal.loop-text-preserved
@@ -39,13 +41,13 @@ loop-text-preserved g c =
       tt,
       next_given c.loop-text.yielded c.loop-text.text-iterator.rest.items c.next.new.self.rest.items c.args.texts.items c.in-Some.text c.in-Some.ensures.steps.0
           c.loop-text.invariant.2,
-      same_each c.args.ruling_out c.args.conflicts c.args.at_least (sym (map-append name c.loop-text.yielded (c.in-Some.text ∷ []))) (sym c.greater-outcome.ensures)
+      same_each c.args.options.ruling_out c.args.options.conflicts c.args.at_least (sym (map-append name c.loop-text.yielded (c.in-Some.text ∷ []))) (sym c.greater-outcome.ensures)
           (sym (c.in_ok-extend_from_slice.ensures.items ∙ ap (λ ls. c.loop-text.lines.items ++ ls) c.deref.ensures.value))
-          (one_more c.loop-text.invariant.3 c.in_ok-next.ensures.answered),
+          (one_more c.args.options.ruling_out c.args.options.conflicts c.args.at_least c.loop-text.invariant.3 c.in_ok-next.ensures.answered),
     )
 
 pub returns-clause-answered : goal.returns-clause-answered
 returns-clause-answered g c =
     let all = all_given c.loop-text.yielded c.loop-text.text-iterator.rest.items c.args.texts.items (sym c.loop-text.text-iterator.rest.ok.0 ∙ c.in-None.ensures.steps.0)
     c.loop-text.invariant.2 in
-    subst (λ ts. AnswersEach c.args.ruling_out c.args.conflicts c.args.at_least (map (named_of g.S.Read.remaining) ts) c.loop-text.outcome c.loop-text.lines.items) all c.loop-text.invariant.3
+    subst (λ ts. AnswersEach c.args.options.ruling_out c.args.options.conflicts c.args.at_least (map (named_of g.S.Read.remaining) ts) c.loop-text.outcome c.loop-text.lines.items) all c.loop-text.invariant.3

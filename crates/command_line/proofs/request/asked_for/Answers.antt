@@ -21,4 +21,4 @@ returns-in-Some c =
     let given : subcommand_rows_of c.args.matches.now ≡ Some (c.in-Some.name.now, rows_of (found_of c.in-Some.given.now)) =
     both_known (λ b. (out-SubCommand (box_value b)).name.now) (λ b. rows_of (found_of (out-SubCommand (box_value b)).matches)) (out-ArgMatches c.args.matches.now).subcommand
     c.in-Some.name.now (rows_of (found_of c.in-Some.given.now)) c.in-Some.ensures.name c.in-Some.ensures.rows in
-    IfOk-weaker c.asked_of_command.result _ _ (λ asked is. is ∙ sym (ap asked_of given)) c.asked_of_command.ensures
+    IfOk-weaker c.request_of_command.result _ _ (λ asked is. is ∙ sym (ap asked_of given)) c.request_of_command.ensures

@@ -19,7 +19,7 @@ loop-witness-preserved c = (
   next_given c.loop-witness.yielded c.loop-witness.witness-iterator.rest.items c.next.new.self.rest.items c.args.witnesses.items c.in-Some.witness c.in-Some.ensures.steps.0
       c.loop-witness.invariant.2,
   subst (AreAlike (c.loop-witness.yielded ++ c.in-Some.witness ∷ [])) (sym c.in_ok-push.ensures.items)
-      (alike_snoc c.loop-witness.yielded c.loop-witness.others.items c.in-Some.witness c.in_ok-witness_again.field-0 c.loop-witness.invariant.3 c.in_ok-witness_again.ensures),
+      (alike_snoc c.loop-witness.yielded c.loop-witness.others.items c.in-Some.witness c.in_ok-again.again.witness c.loop-witness.invariant.3 c.in_ok-again.ensures),
 )
 
 pub returns : goal.returns

@@ -1,7 +1,7 @@
 use Rattle.std.proofs.Common.{sym, subst, ◌∙◌}
 use Rattle.doc_check.specs.NoOrders.{AreUnpaired}
 use Rattle.doc_check.specs.ReplyOrder.{IsReplyOrder}
-use Rattle.doc_check.specs.aids.Checked.{IsChecked}
+use Rattle.doc_check.specs.aids.CheckedPlaces.{IsChecked}
 use Rattle.doc_check.proofs.SearchLemmas.{follows_none, one_reply_order, replies_unpaired}
 use Rattle.doc_check.proofs.search.answer.Goals as goal
 

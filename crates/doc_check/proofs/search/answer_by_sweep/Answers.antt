@@ -5,7 +5,7 @@ use Rattle.doc_register.specs.declared.state.Conflicts.{Conflicts}
 use Rattle.events.specs.declared.record.Rec.{Rec}
 use Rattle.places.specs.declared.place.Place.{Place}
 use Rattle.doc_check.specs.NoOrders.{AreUnpaired, HasNoOrder}
-use Rattle.doc_check.specs.aids.Checked.{IsChecked}
+use Rattle.doc_check.specs.aids.CheckedPlaces.{IsChecked}
 use Rattle.doc_check.specs.aids.Sweep.{IsOfSweep}
 use Rattle.doc_check.proofs.SearchLemmas.{finds_none, sweep_invalid}
 use Rattle.doc_check.proofs.search.answer_by_sweep.Goals as goal

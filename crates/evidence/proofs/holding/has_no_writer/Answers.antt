@@ -1,5 +1,5 @@
 use Rattle.std.proofs.Common.{◌<◌, arith, true≢false, sym, subst, length}
-use Rattle.evidence.specs.aids.AnsweredCalls.{IsFoundAs}
+use Rattle.evidence.specs.aids.CallsWithPairs.{IsFoundAs}
 use Rattle.evidence.proofs.EvidenceLemmas.{get_within, no_writer_reported, of_document, reply_within}
 use Rattle.evidence.proofs.holding.has_no_writer.Goals as goal
 

@@ -1,5 +1,5 @@
 use Rattle.std.proofs.Common.{true≢false, sym, subst}
-use Rattle.evidence.specs.aids.AnsweredCalls.{IsPerformedAs}
+use Rattle.evidence.specs.aids.CallsWithPairs.{IsPerformedAs}
 use Rattle.evidence.proofs.EvidenceLemmas.{twice_reported}
 use Rattle.evidence.proofs.holding.is_pair_twice.Goals as goal
 

@@ -1,5 +1,5 @@
 use Rattle.std.proofs.Common.{◌∙◌, true≢false, sym, subst}
-use Rattle.evidence.specs.aids.AnsweredCalls.{IsFoundAs, IsPerformedAs}
+use Rattle.evidence.specs.aids.CallsWithPairs.{IsFoundAs, IsPerformedAs}
 use Rattle.evidence.proofs.EvidenceLemmas.{get_within, of_document, stale_get_reported, write_within}
 use Rattle.evidence.proofs.holding.is_stale_get.Goals as goal
 

@@ -1,5 +1,5 @@
 use Rattle.std.proofs.Common.{◌∙◌, true≢false, sym, subst}
-use Rattle.evidence.specs.aids.AnsweredCalls.{IsPerformedAs}
+use Rattle.evidence.specs.aids.CallsWithPairs.{IsPerformedAs}
 use Rattle.evidence.proofs.EvidenceLemmas.{of_document, stale_swap_reported, write_within}
 use Rattle.evidence.proofs.holding.is_stale_swap.Goals as goal
 

@@ -1,10 +1,6 @@
-use Rattle.std.proofs.Common.{◌∙◌, ap, sym}
-use Rattle.json.specs.Lex.{after_comma, after_value, punctuate}
-use Rattle.api_lines.specs.aids.Scanning.{tokens_at}
-use Rattle.api_lines.proofs.ScanLemmas.{comma_passed}
+use Rattle.std.proofs.Common.{◌∙◌, ap}
+use Rattle.json.specs.Lex.{after_value, punctuate}
 use Rattle.api_lines.proofs.scanner.Scanner.end_value.Goals as goal
 
-pub returns-in-Some : goal.returns-in-Some
-returns-in-Some c =
-    ap (punctuate after_comma) c.after_spaces-self.ensures.same
-    ∙ (sym (ap (tokens_at after_value) c.in-Some.ensures ∙ comma_passed _) ∙ ap (punctuate after_value) c.after_spaces-rest.ensures.same)
+pub returns : goal.returns
+returns c = c.pass_comma.ensures ∙ ap (punctuate after_value) c.after_spaces.ensures.same

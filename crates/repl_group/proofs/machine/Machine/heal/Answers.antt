@@ -8,4 +8,4 @@ pub returns-in_err-renew-clause-due : goal.returns-in_err-renew-clause-due
 returns-in_err-renew-clause-due c =
     OnErr-always c.from_residual.result
     (subst (λ (w : GroupState). (n : GroupState) × OnCopy (λ y. Does (healed w c.args.copy y)) w c.args.copy Done n) c.self.view_is
-    (heal_due _ c.args.copy c.in-Some.field-0 (sym c.find.ensures ∙ c.in-Some.is)))
+    (heal_due _ c.args.copy c.in-Some.field-0 (sym c.flags.ensures ∙ c.in-Some.is)))

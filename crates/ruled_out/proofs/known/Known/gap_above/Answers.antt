@@ -1,6 +1,6 @@
 use Rattle.std.proofs.Common.{◌≡◌, ◌+◌, ◌*◌, suc, subst, sym, ap, Some, None, ◌∙◌, arith, true≢false}
 use Rattle.ruled_out.specs.Reported.{IsKnown}
-use Rattle.ruled_out.specs.Positions.{gap_of}
+use Rattle.ruled_out.specs.Positions.{taking_position}
 use Rattle.ruled_out.specs.aids.Above.{IsLeastAbove}
 use Rattle.ruled_out.specs.aids.KnownPairs.{IsGapAbove}
 use Rattle.ruled_out.specs.aids.Places.{IsPlaceOf}
@@ -25,5 +25,5 @@ returns-else-place c records known =
     let least : IsLeastAbove c.args.lower (Some q) = subst (IsLeastAbove c.args.lower) c.in_ok-next.was c.least_above.ensures in
     let place : IsPlaceOf records q c.find-place.result = c.find-place.ensures.exact records known in
     let unknown : ¬ IsKnown records q = λ is. true≢false (sym (place.known.1 is) ∙ c.if-place.false) in
-    let gap : gap_of records q ≡ 2 * c.find-place.result.below + 1 = (let count = place.below in omega (arith, ap (λ n. suc (2 * n)) count)) in
+    let gap : taking_position records q ≡ 2 * c.find-place.result.below + 1 = (let count = place.below in omega (arith, ap (λ n. suc (2 * n)) count)) in
     subst (λ n. IsGapAbove records c.args.lower (Some n)) gap (room_above records c.args.lower q least unknown)

@@ -1,0 +1,208 @@
+use crate::block::Block;
+use crate::calls::{Call, end_of};
+use crate::draft::Draft;
+use crate::drawing::drawing_of;
+use crate::drawn::{DrawingKind, Drawn};
+use crate::named::Named;
+use crate::order_before::{OrderBefore, order_before, order_of_witness};
+use crate::order_search::OrderSearch;
+use crate::subject::Unexplained;
+use crate::view::{View, calls_in_view};
+use crate::word::Word::{Count, Id, Number, Shown, Text};
+use events::{History, Rec};
+use places::DocWitness;
+use std::alloc::Global;
+use version_pair::{DocId, NoMemory};
+
+// The greatest number of versions that a timeline shows.
+const MOST_VERSIONS: usize = 40;
+
+// A document with its calls.
+#[derive(Clone, Copy)]
+struct Viewed<'a, 'h> {
+    id: &'h DocId,
+    records: &'a [Rec],
+    // The calls that are shown.
+    calls: &'a [Call<'h>],
+}
+
+// Adds that the history has no such document.
+fn add_stranger(draft: &mut Draft<'_>, view: &View<'_>) -> Result<(), NoMemory> {
+    draft.paragraph(
+        "The history has no document \"{}\".",
+        &[Shown(view.document)],
+    )
+}
+
+// Adds which calls are shown, and whether it is known when they take effect.
+fn add_shown(
+    draft: &mut Draft<'_>,
+    viewed: Viewed<'_, '_>,
+    order: &Option<OrderBefore>,
+) -> Result<(), NoMemory> {
+    let mut last = 0usize;
+    for call in viewed.calls {
+        last = last.max(end_of(&call.record));
+    }
+    let first = viewed.calls.first().map_or(0, |call| call.record.call_at);
+    let effect = match order {
+        Some(_) =>
+            "A stroke across a bar shows when its call takes effect, if it has a place in the order that was found.",
+        None => "No order of them is known, so it doesn't show when they take effect.",
+    };
+    draft.paragraph(
+        "The timeline, which the page has, shows {} of the {} calls of {}: those from line {} to line {}. {}",
+        &[
+            Count(viewed.calls.len()),
+            Count(viewed.records.len()),
+            Id(viewed.id),
+            Number(draft.lines.number(first)),
+            Number(draft.lines.number(last)),
+            Text(effect),
+        ],
+    )
+}
+
+// Returns the part of the order with the calls that are shown, the changes between them, and the state before.
+fn part_of(alloc: Global, order: OrderBefore, calls: &[Call<'_>]) -> Result<OrderBefore, NoMemory> {
+    let first = calls.first().map_or(0, |call| call.record.call_at);
+    let last = calls.last().map_or(0, |call| call.record.call_at);
+    let mut part = OrderBefore {
+        left_out: order.left_out,
+        start: order.start,
+        steps: Vec::new(alloc),
+    };
+    for step in order.steps.iter() {
+        let place = step.record.call_at;
+        if first <= place && place <= last {
+            part.steps.push(*step)?;
+        } else if part.steps.is_empty() {
+            part.start = step.state;
+        } else if place < first && step.is_change {
+            part.steps.push(*step)?;
+        }
+    }
+    Ok(part)
+}
+
+// Adds the timeline.
+fn add_drawing(
+    draft: &mut Draft<'_>,
+    viewed: Viewed<'_, '_>,
+    order: &Option<OrderBefore>,
+    named: Option<&Named>,
+    event: Option<usize>,
+) -> Result<(), NoMemory> {
+    let drawn = Drawn {
+        kind: DrawingKind::Timeline,
+        calls: viewed.calls,
+        named,
+        order: order.as_ref(),
+        versions: MOST_VERSIONS,
+        event,
+        several: false,
+    };
+    let drawing = drawing_of(draft, &drawn)?;
+    draft.add(Block::Drawing(drawing))
+}
+
+// Adds the timeline and what it shows, or that there is nothing to show.
+fn add_viewed(
+    draft: &mut Draft<'_>,
+    viewed: Viewed<'_, '_>,
+    order: Option<OrderBefore>,
+    named: Option<&Named>,
+    event: Option<usize>,
+) -> Result<(), NoMemory> {
+    if viewed.calls.is_empty() {
+        return draft.paragraph(
+            "No call of the document {} is on one of these lines.",
+            &[Id(viewed.id)],
+        );
+    }
+    let order = match order {
+        Some(order) => Some(part_of(draft.alloc, order, viewed.calls)?),
+        None => None,
+    };
+    add_shown(draft, viewed, &order)?;
+    add_drawing(draft, viewed, &order, named, event)
+}
+
+/// Adds the timeline of a document of a history that an order explains.
+pub fn add_explained_timeline(
+    draft: &mut Draft<'_>,
+    witnesses: &[DocWitness],
+    view: Option<&View<'_>>,
+) -> Result<(), NoMemory> {
+    let Some(view) = view else {
+        return Ok(());
+    };
+    draft.heading("A timeline of the document")?;
+    let mut all = witnesses.iter();
+    let Some(witness) = all.find(|it| it.id().as_str() == view.document) else {
+        return add_stranger(draft, view);
+    };
+    let calls = calls_in_view(draft, view, witness.id(), witness.records(), None)?;
+    let viewed = Viewed {
+        id: witness.id(),
+        records: witness.records(),
+        calls: calls.as_slice(),
+    };
+    let order = order_of_witness(draft.alloc, witness)?;
+    add_viewed(draft, viewed, Some(order), None, None)
+}
+
+// Returns the number of the document with this id.
+fn document_of(history: &History, id: &str) -> Option<usize> {
+    for doc in 0..history.docs() {
+        if history.doc(doc).as_str() == id {
+            return Some(doc);
+        }
+    }
+    None
+}
+
+// Returns an order of the document's calls before the broken reply, at least from the first one that is shown on,
+// if one is found.
+fn order_in_view<S: OrderSearch>(
+    alloc: Global,
+    unexplained: &Unexplained<'_>,
+    search: &S,
+    viewed: Viewed<'_, '_>,
+) -> Result<Option<OrderBefore>, NoMemory> {
+    let first = viewed.calls.first().map_or(0, |call| call.record.call_at);
+    if !unexplained.before_shown || first >= unexplained.event {
+        return Ok(None);
+    }
+    let records = viewed.records.iter();
+    let most = records.filter(|record| first <= record.call_at).count();
+    order_before(alloc, unexplained, search, viewed.id, viewed.records, most)
+}
+
+/// Adds the timeline of a document of a history for which no order was found.
+pub fn add_failing_timeline<S: OrderSearch>(
+    draft: &mut Draft<'_>,
+    unexplained: &Unexplained<'_>,
+    search: &S,
+    named: &Named,
+    view: Option<&View<'_>>,
+) -> Result<(), NoMemory> {
+    let Some(view) = view else {
+        return Ok(());
+    };
+    let whole = unexplained.whole;
+    draft.heading("A timeline of the document")?;
+    let (id, records) = match document_of(whole, view.document) {
+        Some(doc) if doc < whole.docs() => (whole.doc(doc), whole.records(doc)?),
+        _ => return add_stranger(draft, view),
+    };
+    let event = Some(unexplained.event);
+    let calls = calls_in_view(draft, view, id, &records, event)?;
+    let viewed = Viewed {
+        id,
+        records: records.as_slice(),
+        calls: calls.as_slice(),
+    };
+    let order = order_in_view(draft.alloc, unexplained, search, viewed)?;
+    add_viewed(draft, viewed, order, Some(named), event)
+}

@@ -1,0 +1,54 @@
+use crate::calls::{Call, end_of};
+use crate::draft::Draft;
+use events::Rec;
+use version_pair::{DocId, NoMemory};
+
+// The greatest number of calls that a timeline shows.
+const MOST_CALLS: usize = 400;
+
+/// Which calls a timeline shows: those of a document that were open on one of the lines of the text from the first
+/// to the last one. A call without a reply counts as open on its own line alone.
+#[derive(Clone, Copy)]
+pub struct View<'a> {
+    pub document: &'a str,
+    /// The first line, from 1.
+    pub first: u64,
+    /// The last line; the greatest number if there is no end.
+    pub last: u64,
+}
+
+// Whether the timeline is to show the call.
+fn is_in_view(draft: &Draft<'_>, view: &View<'_>, record: &Rec) -> bool {
+    let start = draft.lines.number(record.call_at);
+    let end = draft.lines.number(end_of(record));
+    start <= view.last && view.first <= end
+}
+
+/// Returns the calls of the document that the timeline shows, at most 400: the last ones up to the broken reply, if
+/// there is one; else the first ones.
+pub fn calls_in_view<'h>(
+    draft: &Draft<'_>,
+    view: &View<'_>,
+    id: &'h DocId,
+    records: &[Rec],
+    event: Option<usize>,
+) -> Result<Vec<Call<'h>>, NoMemory> {
+    let mut calls = Vec::new(draft.alloc);
+    for record in records {
+        if is_in_view(draft, view, record) {
+            // The calls are of one document, so its shard isn't shown.
+            let shard = 0;
+            let record = *record;
+            calls.push(Call { id, shard, record })?;
+        }
+    }
+    let before = event.map_or(0, |event| {
+        calls.partition_point(|call| call.record.call_at <= event)
+    });
+    let mut chosen = Vec::new(draft.alloc);
+    let left_out = before.saturating_sub(MOST_CALLS);
+    for call in calls.iter().skip(left_out).take(MOST_CALLS) {
+        chosen.push(*call)?;
+    }
+    Ok(chosen)
+}
