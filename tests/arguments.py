@@ -40,6 +40,7 @@ FILES = {
     "hidden": case_text("hidden-conflict").encode(),
     "packed.gz": gzip.compress(case_text("index-then-get").encode()),
     "one": get(0).encode(),
+    "torn": b"{\n",
     "few": case_text("index-then-get").encode(),
     "none": b"",
     "few.not-judged": b"",
@@ -324,7 +325,7 @@ HELP += [("--help", "\nExit status:\n  0   yes"), ("--help", "\n  6   yes, with 
 HELP += [(form.format("check"), "\n      --at-least <CALLS>") for form in FORMS]
 
 # What a page has at its top: the file of the history, and the options.
-FILE, OPTIONS = "<dt>file</dt><dd>{}</dd>", "<dt>options</dt><dd>--conflicts {} {}--workers {}</dd>"
+FILE, OPTIONS = "<dt>file</dt><dd>{}</dd>", "<dt>options</dt><dd>--conflicts {} {}--workers {}{}</dd>"
 
 # Arguments that ask for a story with a page, the page's name, how the story begins, and the page if it is known.
 STORIES = [
@@ -334,6 +335,9 @@ STORIES = [
     ("explain --html=- --workers 3 hidden", "-", no(3, 2), None),
     ("explain --html=- --rule-out hidden", "-", refuted("ruled-out", "2", 3, 2), None),
     ("explain --html=- --rule-out story", "-", "refuted kind=stale-get ", EXAMPLES / "stale-get.html"),
+    ("explain story --html page --document d", "page", "refuted kind=stale-get ", None),
+    ("explain story --html page --document d --lines 2-6", "page", "refuted kind=stale-get ", None),
+    ("explain torn --html=- --conflicts=maybe", "-", refused(1, "json"), None),
 ]
 
 # The documents and calls of a run, as the answer to it has them.
@@ -478,7 +482,7 @@ class Arguments(ProgramTest):
         self.assertEqual(text.count(options), 1)
         if known:
             known_text = known.read_text().replace(FILE.format(f"{known.stem}.ndjson"), FILE.format("story"))
-            known_text = known_text.replace(OPTIONS.format("plain", "", 1), options)
+            known_text = known_text.replace(OPTIONS.format("plain", "", 1, ""), options)
             self.assertTrue(text == known_text, f"the page is not {known}")
         else:
             self.assertTrue(text.startswith("<!doctype html>"))
@@ -487,7 +491,9 @@ class Arguments(ProgramTest):
     def options_shown(self, arguments):
         """The options of a page that is made with these arguments."""
         reading = "maybe" if "=maybe" in arguments else "plain"
-        return OPTIONS.format(reading, "--rule-out " if "--rule-out" in arguments else "", 3 if "--workers 3" in arguments else 1)
+        ruling = "--rule-out " if "--rule-out" in arguments else ""
+        drawn = re.search(r" --document .*", arguments)
+        return OPTIONS.format(reading, ruling, 3 if "--workers 3" in arguments else 1, drawn[0] if drawn else "")
 
     def test_stories(self):
         """The story begins as is wanted, and the page is the known one."""

@@ -376,9 +376,10 @@ def hold_rooms(page, rows, sources, claims):
 def hold_gate(page, rows, sources, claims):
     """Holds the table of what the gate takes: its crates, the crates of tests, and how many edits must fail."""
     for row in (it for it in rows if it.head[0] == "crate" and "edits" in it.head):
-        for name in (row.cells[0], *re.findall(r"\w+_tests", " ".join(row.cells))):
+        crates = row.cells[0].split(", ")
+        for name in (*crates, *re.findall(r"\w+_tests", " ".join(row.cells))):
             claims.hold(name in sources.crates, page, row.line, f"there is no crate {name}")
-        edits = len(list((CRATES / row.cells[0]).glob("must-fail/*.edit")))
+        edits = sum(len(list((CRATES / name).glob("must-fail/*.edit"))) for name in crates)
         cell = row.cells[row.head.index("edits")]
         claims.hold(cell == (str(edits) if edits else ""), page, row.line, f"{row.cells[0]} has {edits or 'no'} edits")
 

@@ -20,7 +20,7 @@ def headline(story):
 
 # How paragraphs among the reasons begin that are none: what the first line names instead, and what may make the
 # reasons look wrong.
-BESIDE = ("The first line names ", "Was a line written late? ", "Did a conflict hide a write? ")
+BESIDE = ("The first line names ", "The reasons above need no line after ", "Was a line written late? ", "Did a conflict hide a write? ")
 
 
 def reasons(story):

@@ -52,9 +52,9 @@ def at(time):
     return datetime.datetime.fromtimestamp(time / 1000, datetime.timezone.utc).strftime("%Y-%m-%dT%H:%M:%S.%f")[:-3] + "Z"
 
 
-def in_table(time):
-    """The same as the tables of a page have it, with its date."""
-    return at(time).replace("T", " ").rstrip("Z")
+def clock(time):
+    """The same without its date, which is given once for all lines."""
+    return at(time)[11:-1]
 
 
 # A get of an old version. Some lines say when they were written; what others say is no time.
@@ -77,10 +77,11 @@ TEXTS = [
         ],
         {
             f"5 at {at(MADE + 2_000)}": range(2, 100),
-            f"1 at {at(MADE)}": [1],
-            f'<td class="mono">5 at {in_table(MADE + 2_000)}</td>': [1],
-            f'<span class="when">line 6 at {in_table(MADE + 86_400_007)}</span>: k=0 at 1/0': [1],
-            f"<dt>written</dt><dd>{in_table(MADE)} to {in_table(MADE + 86_400_007)} (UTC)</dd>": [1],
+            f"1 at {at(MADE)}": range(1, 100),
+            f'<td class="mono">5 at {at(MADE + 2_000)}</td>': [1],
+            f'<span class="when">line 6 at {at(MADE + 86_400_007)}</span>: k=0 at 1/0': [1],
+            f"<dt>written</dt><dd>{at(MADE)} to {at(MADE + 86_400_007)}</dd>": [1],
+            "Times are in UTC": [0],
         },
     ),
     (
@@ -89,16 +90,17 @@ TEXTS = [
         + written(updated(1, 1, 1), MADE + 3) + written(get(2, ',"client":"cart","note":"node 2 is <back>"'), MADE + 4) + written(found(2, 1, 0), MADE + 5),
         refuted("stale-get", "2,1", 5, 2),
         [
-            f"\n  line 1 at {at(MADE)}, call 0 by cart: index k=1 -> line 2 at {at(MADE + 1)}: created as 1/0\n",
-            f"\n* line 3 at {at(MADE + 2)}, call 1 by pay: index k=2 -> line 4 at {at(MADE + 3)}: updated as 1/1\n",
-            f"\n  line 5 at {at(MADE + 4)}, note: node 2 is <back>\n! line 5 at {at(MADE + 4)}, call 2 by cart: get -> ",
+            f"\nTimes are in UTC, on {at(MADE)[:10]} unless another date is given.\n",
+            f"\n  line 1 at {clock(MADE)}, call 0 by cart: index k=1 -> line 2 at {clock(MADE + 1)}: created as 1/0\n",
+            f"\n* line 3 at {clock(MADE + 2)}, call 1 by pay: index k=2 -> line 4 at {clock(MADE + 3)}: updated as 1/1\n",
+            f"\n  line 5 at {clock(MADE + 4)}, note: node 2 is <back>\n! line 5 at {clock(MADE + 4)}, call 2 by cart: get -> ",
         ],
         {
             "<th>client</th>": [1],
-            f'<td class="mono">1 at {in_table(MADE)[11:]}</td><td class="mono">0</td><td class="mono">cart</td>': [1],
-            f'<tr class="note"><td>note</td><td class="mono">5 at {in_table(MADE + 4)[11:]}</td><td colspan="4">node 2 is &lt;back&gt;</td></tr>': [1],
+            f'<td class="mono">1 at {clock(MADE)}</td><td class="mono">0</td><td class="mono">cart</td>': [1],
+            f'<tr class="note"><td>note</td><td class="mono">5 at {clock(MADE + 4)}</td><td colspan="5">node 2 is &lt;back&gt;</td></tr>': [1],
             '<g class="note" tabindex="0"><title>line 5: node 2 is &lt;back&gt;</title>': [1],
-            f"<dt>written</dt><dd>{in_table(MADE)[:10]}, {in_table(MADE)[11:]} to {in_table(MADE + 5)[11:]} (UTC)</dd>": [1],
+            f"<dt>written</dt><dd>{at(MADE)[:10]}, {clock(MADE)} to {clock(MADE + 5)} (UTC)</dd>": [1],
             "<dt>history</dt><dd>events: 6; calls: 3; documents: 1</dd>": [1],
         },
     ),
@@ -716,8 +718,7 @@ class Stories(ProgramTest):
             self.assertIn(part, story)
         for part in absent:
             self.assertNotIn(part, story)
-        reading = "--conflicts plain " if text else ""
-        self.assertIn(f"<dt>options</dt><dd>{reading}--workers 1</dd>", page)
+        self.assertIn("<dt>options</dt><dd>--conflicts plain --workers 1</dd>", page)
         self.assertIn("<dt>program</dt><dd>casbench 0.1.0</dd>", page)
 
     def test_coverage(self):

@@ -141,6 +141,8 @@ const CELL_BREAK: &str = r#"</td><td class="mono">"#;
 
 const WIDE_CELL: &str = r#"</td><td colspan="4">"#;
 
+const CLIENT_WIDE_CELL: &str = r#"</td><td colspan="5">"#;
+
 const WHEN_START: &str = r#"<span class="when">"#;
 
 const WHEN_END: &str = "</span>";
@@ -271,6 +273,8 @@ pub enum Markup {
     CellBreak,
     /// The break before the last cell of a note's row.
     WideCell,
+    /// The same in a table with clients.
+    ClientWideCell,
     /// Words that are never broken across lines.
     WhenStart,
     WhenEnd,
@@ -367,6 +371,7 @@ pub fn markup_text(markup: Markup) -> &'static str
         Markup::NoteRowStart => NOTE_ROW_START,
         Markup::CellBreak => CELL_BREAK,
         Markup::WideCell => WIDE_CELL,
+        Markup::ClientWideCell => CLIENT_WIDE_CELL,
         Markup::WhenStart => WHEN_START,
         Markup::WhenEnd => WHEN_END,
         Markup::RowEnd => ROW_END,

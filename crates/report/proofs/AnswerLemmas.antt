@@ -1,5 +1,5 @@
 -- What the lines and texts that are written say of the inputs.
-use Rattle.std.proofs.Common.{ℕ, ◌≡◌, None, List, ap, map, sym, subst, ◌∙◌, Option, Some, Ok, Err, inl, inr, codes, Vec, Global}
+use Rattle.std.proofs.Common.{ℕ, suc, ◌≡◌, ◌≤◌, None, List, ap, map, sym, subst, ◌∙◌, Option, Some, Ok, Err, inl, inr, codes, Vec, Global}
 use Rattle.std.specs.Prelude.{IfOk, IfSome, Result}
 use Rattle.std.specs.declared.alloc.AllocError.{AllocError}
 use Rattle.doc_register.specs.declared.state.Conflicts.{Conflicts}
@@ -18,6 +18,7 @@ use Rattle.compose.specs.Covers.{AreCover}
 use Rattle.evidence.specs.Evidence.{Holds, IsOfCalls, IsReported, IsWithoutRuledOut}
 use Rattle.evidence.specs.declared.refuted.Refuted.{Refuted as Evidence}
 use Rattle.evidence.specs.declared.refuted.Refuted.TheVariants as evidence
+use Rattle.evidence.specs.declared.certainty.Certainty.{Certainty}
 use Rattle.evidence.specs.declared.ruling_out.RulingOut.{RulingOut}
 use Rattle.evidence.specs.declared.ruling_out.RulingOut.TheVariants.{On}
 use Rattle.compose.specs.Certainties.{Says}
@@ -32,7 +33,7 @@ use Rattle.result_lines.specs.Lines.{broken_line, no_line, refused_file_line, re
 use Rattle.compose.specs.declared.finding.Finding.{Finding}
 use Rattle.compose.specs.declared.finding.Finding.TheVariants.{Explained, Unexplained}
 use Rattle.report.specs.Bulk.{AnswersBulk, IsBulkAnswer}
-use Rattle.report.specs.aids.Earlier.{IsEarlier}
+use Rattle.report.specs.aids.Earlier.{IsEarlier, grounds, grounds_by}
 use Rattle.report.specs.declared.earlier.Earlier.{Earlier}
 use Rattle.report.specs.Findings.{HasItsEvidence, IsFindingOf, SaysFailing}
 use Rattle.report.specs.Verdict.{IsAnswer, IsRefutedBy, IsSomeHistory, IsUndecided, IsUnexplained, IsVerifyAnswer, IsWitnessAnswer, IsWitnessed}
@@ -140,20 +141,35 @@ prefix_refutes c d whole part n stay same is none order =
     none (subst (IsLinearizable c) (sym is) (stay.linearizable c whole n (subst (λ x. IsLinearizable x whole) (sym same) order)))
 
 -- what is found of a prefix without an order is found of the whole
-found_earlier : (whole part : Unproven) (call n : ℕ) (found : Option Earlier) → PrefixesStay → part.events ≡ prefix whole.events n → part.conflicts ≡ whole.conflicts
-    → IfSome found (λ e. e.case ≡ part) → IfSome found (λ e. Says part.conflicts part.events e.failing.evidence call e.certainty)
-    → IfSome found (λ _. ¬ IsLinearizable part.conflicts part.events) → IfSome found (IsEarlier whole call)
-found_earlier whole part call n None stay is same case says none = tt
-found_earlier whole part call n (Some e) stay is same case says none = (
-  ap (λ (c : Unproven). c.conflicts) case ∙ same,
-  subst (λ (c : Unproven). Says c.conflicts c.events e.failing.evidence call e.certainty) (sym case) says,
-  prefix_refutes part.conflicts whole.conflicts whole.events part.events n stay same is none,
-)
+found_earlier : (whole part : Unproven) (o : Offence) (n : ℕ) (found : Option Earlier) → PrefixesStay → n ≤ suc o.event → part.events ≡ prefix whole.events n → part.conflicts ≡ whole.conflicts
+    → IfSome found (λ e. e.case ≡ part) → IfSome found (λ e. Says part.conflicts part.events e.failing.evidence o.call e.certainty)
+    → IfSome found (λ _. ¬ IsLinearizable part.conflicts part.events) → IfSome found (IsEarlier whole o)
+found_earlier whole part o n None stay few is same case says none = tt
+found_earlier whole part o n (Some e) stay few is same case says none = record {
+  conflicts = ap (λ (c : Unproven). c.conflicts) case ∙ same;
+  part = (n, few, ap (λ (c : Unproven). c.events) case ∙ is);
+  says = subst (λ (c : Unproven). Says c.conflicts c.events e.failing.evidence o.call e.certainty) (sym case) says;
+  no_order = prefix_refutes part.conflicts whole.conflicts whole.events part.events n stay same is none;
+}
 
 -- the same if memory may be refused
-pub earlier_found : (whole part : Unproven) (call n : ℕ) (found : Result (Option Earlier) AllocError) → PrefixesStay → part.events ≡ prefix whole.events n
-    → part.conflicts ≡ whole.conflicts → IfOk found (λ it. IfSome it (λ e. e.case ≡ part))
-    → IfOk found (λ it. IfSome it (λ e. Says part.conflicts part.events e.failing.evidence call e.certainty))
-    → IfOk found (λ it. IfSome it (λ _. ¬ IsLinearizable part.conflicts part.events)) → IfOk found (λ it. IfSome it (IsEarlier whole call))
-earlier_found whole part call n (Err e) stay is same case says none = tt
-earlier_found whole part call n (Ok found) stay is same case says none = found_earlier whole part call n found stay is same case says none
+pub earlier_found : (whole part : Unproven) (o : Offence) (n : ℕ) (found : Result (Option Earlier) AllocError) → PrefixesStay → n ≤ suc o.event
+    → part.events ≡ prefix whole.events n → part.conflicts ≡ whole.conflicts → IfOk found (λ it. IfSome it (λ e. e.case ≡ part))
+    → IfOk found (λ it. IfSome it (λ e. Says part.conflicts part.events e.failing.evidence o.call e.certainty))
+    → IfOk found (λ it. IfSome it (λ _. ¬ IsLinearizable part.conflicts part.events)) → IfOk found (λ it. IfSome it (IsEarlier whole o))
+earlier_found whole part o n (Err e) stay few is same case says none = tt
+earlier_found whole part o n (Ok found) stay few is same case says none = found_earlier whole part o n found stay few is same case says none
+
+-- an explanation rests on what was found of the prefix, if something was; and else on what was found of the whole
+pub earlier_grounds : (whole : Unproven) (evidence : Option Evidence) (certainty : Certainty) (found : Option Earlier) (e : Earlier) (H : List Event) → found ≡ Some e
+    → H ≡ e.case.events → grounds whole evidence certainty found ≡ grounds_by H e.failing.evidence e.certainty
+unfolding grounds
+earlier_grounds whole evidence certainty found e H is same =
+    subst (λ f. grounds whole evidence certainty f ≡ grounds_by H e.failing.evidence e.certainty) (sym is)
+    (ap (λ x. grounds_by x e.failing.evidence e.certainty) (sym same))
+
+pub whole_grounds : (whole : Unproven) (evidence : Option Evidence) (certainty : Certainty) (found : Option Earlier) (H : List Event) → found ≡ None
+    → H ≡ whole.events → grounds whole evidence certainty found ≡ grounds_by H evidence certainty
+unfolding grounds
+whole_grounds whole evidence certainty found H is same =
+    subst (λ f. grounds whole evidence certainty f ≡ grounds_by H evidence certainty) (sym is) (ap (λ x. grounds_by x evidence certainty) (sym same))

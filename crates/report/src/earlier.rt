@@ -66,7 +66,7 @@ pub fn earlier_reasons(
     failing: &Failing,
     certainty: Certainty,
 ) -> Result<Option<Earlier>, NoMemory>
-    ensures { IfOk result (λ found. IfSome found (IsEarlier case.now failing.now.offence.call)) }
+    ensures { IfOk result (λ found. IfSome found (IsEarlier case.now failing.now.offence)) }
 {
     // That no order of a history explains it if none explains a prefix is known from here on.
     prefixes();

@@ -8,7 +8,7 @@ ghost use Rattle.history.specs.Text.{IsHistoryText};
 ghost use Rattle.page.specs.Pages.{IsPage};
 ghost use Rattle.stream_io.specs.Faults.{IsCheckFault, IsReadingFault};
 ghost use Rattle.stream_io.specs.Taken.{TakesHistory};
-ghost use Rattle.report.specs.aids.Earlier.{IsEarlier};
+ghost use Rattle.report.specs.aids.Earlier.{IsEarlier, grounds, grounds_by};
 ghost use Rattle.report.specs.Explained.{ExplainsInput};
 ghost use Rattle.report.specs.Findings.{HasItsEvidence};
 ghost use Rattle.report.specs.Verdict.{AnswersInput, IsAnswer};
@@ -26,7 +26,7 @@ use std::io::Read;
 use std::sync::Wait;
 use std::thread::Threads;
 use story::{
-    About, EventLines, Explained, Story, Unexplained, View, cites_later, explained_story,
+    About, EventLines, Explained, Story, Subjects, Unexplained, View, explained_story,
     failing_story, page_of, plain_text, refused_story,
 };
 use stream_io::{Answer, StreamFault};
@@ -43,8 +43,12 @@ fn unexplained_of<'h>(
     requires says { Says case.now.conflicts case.now.events failing.now.evidence
         failing.now.offence.call certainty }
     requires proved { certainty ≢ Certainty.Undecided → ¬ IsLinearizable case.now.conflicts case.now.events }
-    requires earlier { IfSome earlier.now (IsEarlier case.now failing.now.offence.call) }
+    requires earlier { IfSome earlier.now (IsEarlier case.now failing.now.offence) }
     ensures whole { result.whole.now ≡ case.now.events }
+    ensures event { result.event ≡ failing.now.offence.event }
+    ensures call { result.call ≡ failing.now.offence.call }
+    ensures grounds { grounds case.now failing.now.evidence certainty earlier.now
+        ≡ grounds_by result.history.now result.evidence result.certainty }
     // It says that there is no order only if there is none.
     ensures proved { result.certainty ≢ Certainty.Undecided
         → ¬ IsLinearizable case.now.conflicts case.now.events }
@@ -83,6 +87,24 @@ fn unexplained_of<'h>(
     }
 }
 
+// Returns the prefix that ends with the broken reply, if it provably has no order by itself, and these documents of the
+// whole history have reasons that cite a later line.
+fn reasons_before(
+    alloc: Global,
+    case: &Case,
+    failing: &Failing,
+    certainty: Certainty,
+    subjects: &Subjects<'_>,
+) -> Result<Option<Earlier>, NoMemory>
+    ensures { IfOk result (λ found. IfSome found (IsEarlier case.now failing.now.offence)) }
+{
+    if subjects.cite_later() {
+        earlier_reasons(alloc, case, failing, certainty)
+    } else {
+        Ok(None)
+    }
+}
+
 // Returns the explanation of a history for which no order was found.
 fn story_of_case(
     alloc: Global,
@@ -95,12 +117,15 @@ fn story_of_case(
     requires { IfSome failing.now.evidence (Holds case.now.conflicts case.now.events) }
 {
     let certainty = certainty_of(alloc, case, failing)?;
-    let mut earlier = None;
-    if cites_later(alloc, &unexplained_of(case, failing, certainty, &earlier))? {
-        earlier = earlier_reasons(alloc, case, failing, certainty)?;
+    let searches = Searches { ruling_out };
+    let none = None;
+    let subjects = Subjects::of(alloc, &unexplained_of(case, failing, certainty, &none))?;
+    let earlier = reasons_before(alloc, case, failing, certainty, &subjects)?;
+    if earlier.is_none() {
+        return failing_story(alloc, &subjects, lines, &searches, view);
     }
-    let unexplained = unexplained_of(case, failing, certainty, &earlier);
-    failing_story(alloc, &unexplained, lines, &Searches { ruling_out }, view)
+    let subjects = Subjects::of(alloc, &unexplained_of(case, failing, certainty, &earlier))?;
+    failing_story(alloc, &subjects, lines, &searches, view)
 }
 
 // Returns the explanation of a history.
@@ -258,8 +283,10 @@ pub fn explained_page<T: Threads + Wait + Sync, R: Read>(
     let (answer, story) = explain(rt, alloc, keys, reader, options, shown.view.as_ref())?;
     let about = About {
         file: shown.file,
+        conflicts: options.conflicts,
         ruling_out: options.ruling_out,
         workers: options.workers,
+        view: shown.view,
     };
     let page = page_of(alloc, line_of(&answer), &story, &about)?;
     let made = with_story(alloc, answer, &story)?;

@@ -1,27 +1,14 @@
-use crate::block::{Block, Story};
-use crate::coverage_words::add_coverage;
-use crate::draft::Draft;
-use crate::event_lines::EventLines;
-use crate::head::HistoryCounts;
 use crate::refused::{add_refusal, line_shown};
-use crate::subject::Explained;
 use crate::timeline::add_explained_timeline;
-use crate::view::View;
-use crate::word::Word::{Asked, Count, Heard, Id, Number, Version};
-use crate::word::{NOTATION, sentence_of};
 use api_lines::RefusedLine;
-use events::Rec;
-use places::{DocWitness, Place};
+use places::DocWitness;
 use std::alloc::Global;
+use story_blocks::Word::{Asked, Count, Heard, Id, Number, Version};
+use story_blocks::{Block, Draft, EventLines, HistoryCounts, NOTATION, Story, View, sentence_of};
+use story_drawings::MOST_DESCRIBED;
+use story_reasons::{Explained, record_at};
+use story_words::add_coverage;
 use version_pair::NoMemory;
-
-/// The greatest number of calls that are shown one by one.
-pub const MOST_DESCRIBED: usize = 40;
-
-/// Returns the record of a place; there always is one, since the places of a witness are valid.
-pub fn record_at(witness: &DocWitness, place: &Place) -> Option<Rec> {
-    witness.records().get(place.rec).copied()
-}
 
 // Returns how many calls of unknown outcome (indeterminate) took effect in the order found.
 fn completed_count(witnesses: &[DocWitness]) -> usize {
@@ -103,14 +90,13 @@ pub fn explained_story(
     add_explained_timeline(&mut draft, witnesses, view)?;
     add_effects(&mut draft, witnesses, count)?;
     add_coverage(&mut draft, explained)?;
-    let reading = witnesses.first().map(|witness| witness.conflicts());
     let title = draft.sentence("One order of the calls explains every reply.", &[])?;
     let counts = HistoryCounts {
         events: lines.events(),
         calls: explained.calls,
         documents: explained.docs,
     };
-    Ok(draft.finish(title, Some(counts), reading))
+    Ok(draft.finish(title, Some(counts)))
 }
 
 /// Returns the explanation of a text that was refused. Nothing is promised of its sentences.
@@ -127,5 +113,5 @@ pub fn refused_story(alloc: Global, refused: &RefusedLine) -> Result<Story, NoMe
     draft.heading("How the line begins")?;
     let shown = line_shown(alloc, &refused.line)?;
     draft.add(Block::Items(vec![in alloc; shown]?))?;
-    Ok(draft.finish(title, None, None))
+    Ok(draft.finish(title, None))
 }

@@ -1,28 +1,16 @@
-use crate::advice::add_advice;
-use crate::block::Story;
-use crate::calls::{Call, call_of};
-use crate::damage_words::add_damage;
-use crate::describing::MOST_DESCRIBED;
-use crate::diagnosis::diagnosis_of;
-use crate::draft::Draft;
-use crate::event_lines::EventLines;
-use crate::head::HistoryCounts;
-use crate::headline::{add_headline, certainty_words};
-use crate::kept::Kept;
-use crate::named::Named;
-use crate::order_before::{OrderBefore, order_before};
-use crate::order_search::OrderSearch;
-use crate::shown_calls::Shown;
-use crate::subject::Unexplained;
-use crate::subjects::{Subject, subjects_of};
+use crate::shown_calls::ShownCalls;
 use crate::timeline::add_failing_timeline;
-use crate::undecided::add_decision;
-use crate::view::View;
-use crate::why::add_why;
-use crate::word::Word::{Asked, Heard, Id, Number, Text};
 use events::{Event, History};
 use evidence::Certainty;
 use std::alloc::Global;
+use story_blocks::Word::{Asked, Heard, Id, Number, Text};
+use story_blocks::{Draft, EventLines, HistoryCounts, Story, View};
+use story_drawings::{Kept, MOST_DESCRIBED, Named};
+use story_reasons::{
+    Call, Diagnosis, OrderBefore, OrderExtent, OrderSearch, Subject, Subjects, Unexplained,
+    call_of, diagnosis_of, order_before,
+};
+use story_words::{add_advice, add_damage, add_decision, add_headline, add_why, certainty_words};
 use version_pair::NoMemory;
 
 // Adds the document of the offence, and the reply at which the search first fails.
@@ -78,13 +66,17 @@ fn order_of<S: OrderSearch>(
 ) -> Result<Option<OrderBefore>, NoMemory> {
     match subjects.first() {
         Some(subject) if unexplained.before_shown => {
+            let extent = OrderExtent {
+                least: MOST_DESCRIBED,
+                most: MOST_DESCRIBED,
+            };
             order_before(
                 alloc,
                 unexplained,
                 search,
                 subject.id,
                 &subject.records,
-                MOST_DESCRIBED,
+                extent,
             )
         }
         _ => Ok(None),
@@ -107,48 +99,62 @@ fn counts_of(history: &History) -> HistoryCounts {
     }
 }
 
-// Returns the explanation, with these documents.
-fn story_with<'h, S: OrderSearch>(
-    alloc: Global,
-    unexplained: &Unexplained<'h>,
-    lines: &EventLines,
+// Adds what was found, in words: the answer, why no order can have the replies, and how much is broken. Returns the
+// title of the explanation.
+fn add_findings<S: OrderSearch>(
+    draft: &mut Draft<'_>,
+    explained: &Subjects<'_>,
+    found: Option<Diagnosis>,
     search: &S,
-    subjects: &[Subject<'h>],
-    view: Option<&View<'_>>,
-) -> Result<Story, NoMemory> {
-    let order = order_of(alloc, unexplained, search, subjects)?;
-    let named = Named::of(alloc, unexplained, subjects)?;
-    let kept = Kept::of(alloc, subjects, &named)?;
-    let found = diagnosis_of(unexplained, subjects);
-    let mut draft = Draft::new(alloc, lines);
-    let title = add_headline(&mut draft, unexplained, found)?;
-    add_answer(&mut draft, unexplained, subjects)?;
-    add_why(&mut draft, unexplained, subjects, search)?;
-    add_damage(&mut draft, unexplained, subjects)?;
-    add_failing_timeline(&mut draft, unexplained, search, &named, view)?;
-    add_advice(&mut draft, unexplained, subjects, found)?;
-    let shown = Shown {
+) -> Result<String, NoMemory> {
+    let unexplained = &explained.unexplained;
+    let subjects = explained.list.as_slice();
+    let title = add_headline(draft, unexplained, found)?;
+    add_answer(draft, unexplained, subjects)?;
+    add_why(draft, unexplained, subjects, search)?;
+    add_damage(draft, unexplained, subjects)?;
+    Ok(title)
+}
+
+// Adds the calls of the documents.
+fn add_calls<S: OrderSearch>(
+    draft: &mut Draft<'_>,
+    explained: &Subjects<'_>,
+    named: &Named,
+    search: &S,
+) -> Result<(), NoMemory> {
+    let unexplained = &explained.unexplained;
+    let subjects = explained.list.as_slice();
+    let order = order_of(draft.alloc, unexplained, search, subjects)?;
+    let kept = Kept::of(draft.alloc, subjects, named)?;
+    let shown = ShownCalls {
         subjects,
         kept: &kept,
-        named: &named,
+        named,
         order: &order,
         event: unexplained.event,
     };
-    shown.add(&mut draft)?;
-    let counts = counts_of(unexplained.whole);
-    Ok(draft.finish(title, Some(counts), Some(unexplained.conflicts)))
+    shown.add(draft)
 }
 
-/// Returns the explanation of a history for which no order was found. How much the answer says is an
-/// argument; the explanation has one sentence for each value, which is tested, not proved. The search is used
-/// for an order of the calls before the reply that broke it. A timeline is added if one is asked for.
+/// Returns the explanation of a history for which no order was found, by its documents. How much the answer says
+/// is a part of what is explained; the explanation has one sentence for each value, which is tested, not proved. The
+/// search is used for an order of the calls before the reply that broke it. A timeline is added if one is asked for.
 pub fn failing_story<S: OrderSearch>(
     alloc: Global,
-    unexplained: &Unexplained<'_>,
+    explained: &Subjects<'_>,
     lines: &EventLines,
     search: &S,
     view: Option<&View<'_>>,
 ) -> Result<Story, NoMemory> {
-    let subjects = subjects_of(alloc, unexplained)?;
-    story_with(alloc, unexplained, lines, search, &subjects, view)
+    let unexplained = &explained.unexplained;
+    let subjects = explained.list.as_slice();
+    let found = diagnosis_of(unexplained, subjects);
+    let named = Named::of(alloc, unexplained, subjects)?;
+    let mut draft = Draft::new(alloc, lines);
+    let title = add_findings(&mut draft, explained, found, search)?;
+    add_failing_timeline(&mut draft, unexplained, search, &named, view)?;
+    add_advice(&mut draft, unexplained, subjects, found)?;
+    add_calls(&mut draft, explained, &named, search)?;
+    Ok(draft.finish(title, Some(counts_of(unexplained.whole))))
 }

@@ -3,18 +3,64 @@ ghost use Rattle.std.specs.Io.KnownBytes.{IsAtEnd};
 ghost use Rattle.api_lines.specs.Sources.{IsTakenFor};
 ghost use Rattle.history.specs.Reading.{history_text, takes_value};
 
-use crate::event_lines::EventLines;
+use crate::line_key::LineKey;
+use api_lines::lines::is_blank;
 use api_lines::{InputFault, LineReader, ReadFault, RefusedLine, take_lines};
 use events::{HashKeys, History};
 use history::HistoryReader;
 use std::alloc::Global;
 use std::io::Read;
+use story_blocks::EventLines;
+use version_pair::NoMemory;
+
+// The lines of the events of a history that is read, and what they say beside the events.
+#[derive(Drop)]
+struct NumberedLines {
+    alloc: Global,
+    lines: EventLines,
+    time: LineKey,
+    client: LineKey,
+    note: LineKey,
+}
+
+impl NumberedLines {
+    // Adds who asked by the line of the next event, if it says so.
+    fn add_client(&mut self, line: &[u8]) -> Result<(), NoMemory> {
+        match self.client.plain_text(line) {
+            Some(name) => self.lines.add_client(name),
+            None => self
+                .lines
+                .add_client(self.client.text(self.alloc, line)?.as_str()),
+        }
+    }
+
+    // Adds the next line, which was not refused.
+    fn add(&mut self, line: &[u8]) -> Result<(), NoMemory> {
+        if is_blank(line) {
+            return self.lines.add_blank();
+        }
+        if self.time.may_be_in(line) {
+            if let Some(time) = self.time.moment(self.alloc, line)? {
+                self.lines.add_time(time)?;
+            }
+        }
+        if self.client.may_be_in(line) {
+            self.add_client(line)?;
+        }
+        if self.note.may_be_in(line) {
+            self.lines
+                .add_note(self.note.text(self.alloc, line)?.as_str())?;
+        }
+        self.lines.add_event();
+        Ok(())
+    }
+}
 
 // A history that is read line by line, and the lines that its events are on.
 #[derive(Drop)]
 struct NumberedReader {
     history: HistoryReader,
-    lines: EventLines,
+    numbered: NumberedLines,
 }
 
 impl LineReader for NumberedReader {
@@ -29,7 +75,7 @@ impl LineReader for NumberedReader {
 
     fn line(&mut self, line: &[u8]) -> Result<(), ReadFault> {
         self.history.line(line)?;
-        match self.lines.note(line) {
+        match self.numbered.add(line) {
             Ok(()) => Ok(()),
             Err(_) => Err(ReadFault::NoMemory),
         }
@@ -61,12 +107,18 @@ pub fn read_numbered_from<R: Read>(
 {
     let mut reader = NumberedReader {
         history: HistoryReader::with_keys(alloc, keys),
-        lines: EventLines::new(alloc),
+        numbered: NumberedLines {
+            alloc,
+            lines: EventLines::new(alloc),
+            time: LineKey::time(),
+            client: LineKey::client(),
+            note: LineKey::note(),
+        },
     };
     match take_lines(alloc, &mut reader, input)? {
         Ok(()) => {
-            let NumberedReader { history, lines } = reader;
-            Ok(Ok((history.finish(), lines)))
+            let NumberedReader { history, numbered } = reader;
+            Ok(Ok((history.finish(), numbered.lines)))
         }
         Err(refused) => Ok(Err(refused)),
     }

@@ -1,8 +1,7 @@
-use crate::draft::Draft;
-use crate::word::Word::Number;
-use crate::word::add_shown;
 use api_lines::{RefusedLine, TextCause};
 use std::alloc::Global;
+use story_blocks::Word::Number;
+use story_blocks::{Draft, add_shown};
 use version_pair::NoMemory;
 
 // The greatest number of bytes of a refused line that are shown.

@@ -1,16 +1,11 @@
-use crate::block::Block;
-use crate::call_table::Listing;
-use crate::calls::Call;
-use crate::describing::MOST_DESCRIBED;
-use crate::draft::Draft;
-use crate::drawing::drawing_of;
-use crate::drawn::{DrawingKind, Drawn};
-use crate::kept::{Kept, MOST_DRAWN};
-use crate::named::{Named, rest_of};
-use crate::order_before::{OrderBefore, places_reported};
-use crate::subjects::Subject;
-use crate::word::NOTATION;
-use crate::word::Word::{Asked, Count, Id, Number};
+use std::alloc::Global;
+use story_blocks::Word::{Asked, Count, Id, Number};
+use story_blocks::{Block, Draft, NOTATION};
+use story_drawings::{
+    DrawingKind, Drawn, Kept, Listing, MOST_DESCRIBED, MOST_DRAWN, Named, drawing_of,
+    places_reported, rest_of,
+};
+use story_reasons::{Call, OrderBefore, Subject};
 use version_pair::NoMemory;
 
 // The greatest number of calls that are shown and drawn first, and of versions below them.
@@ -18,7 +13,7 @@ const MOST_FIRST: usize = 12;
 
 /// The calls that an explanation shows, and how it shows them.
 #[derive(Clone, Copy)]
-pub struct Shown<'a, 'h> {
+pub struct ShownCalls<'a, 'h> {
     /// The documents of the calls.
     pub subjects: &'a [Subject<'h>],
     pub kept: &'a Kept<'h>,
@@ -28,7 +23,19 @@ pub struct Shown<'a, 'h> {
     pub event: usize,
 }
 
-impl<'h> Shown<'_, 'h> {
+// Returns the calls of both lists, in the order of their events.
+fn joined<'h>(
+    alloc: Global,
+    first: &[Call<'h>],
+    rest: &[Call<'h>],
+) -> Result<Vec<Call<'h>>, NoMemory> {
+    let mut all = Vec::from_slice(alloc, first)?;
+    all.extend_from_slice(rest)?;
+    all.sort_unstable_by_key(|call| call.record.call_at);
+    Ok(all)
+}
+
+impl<'h> ShownCalls<'_, 'h> {
     // Adds a drawing of the calls, with at most that many versions.
     fn add_drawing(
         &self,
@@ -77,8 +84,8 @@ impl<'h> Shown<'_, 'h> {
         }
         draft.heading("The other calls, in the order of their events")?;
         self.add_table(draft, rest, reported)?;
-        if self.kept.count > reported.len() {
-            let left_out = Count(self.kept.count - reported.len());
+        if self.kept.calls_count > reported.len() {
+            let left_out = Count(self.kept.calls_count - reported.len());
             draft.paragraph("Earlier calls left out: {}.", &[left_out])?;
         }
         let drawn = self
@@ -154,9 +161,7 @@ impl<'h> Shown<'_, 'h> {
         // At least 28, since the first are no more than 12.
         let most = MOST_DESCRIBED.saturating_sub(first.len());
         let rest = rest_of(draft.alloc, calls, &first, most)?;
-        let mut reported = Vec::from_slice(draft.alloc, first.as_slice())?;
-        reported.extend_from_slice(rest.as_slice())?;
-        reported.sort_unstable_by_key(|call| call.record.call_at);
+        let reported = joined(draft.alloc, &first, &rest)?;
         draft.heading("The calls that matter, in the order of their events")?;
         draft.paragraph(NOTATION, &[])?;
         self.add_table(draft, &first, &reported)?;

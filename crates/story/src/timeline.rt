@@ -1,33 +1,36 @@
-use crate::block::Block;
-use crate::calls::{Call, end_of};
-use crate::draft::Draft;
-use crate::drawing::drawing_of;
-use crate::drawn::{DrawingKind, Drawn};
-use crate::named::Named;
-use crate::order_before::{OrderBefore, order_before, order_of_witness};
-use crate::order_search::OrderSearch;
-use crate::subject::Unexplained;
-use crate::view::{View, calls_in_view};
-use crate::word::Word::{Count, Id, Number, Shown, Text};
+use crate::calls_in_view::calls_in_view;
 use events::{History, Rec};
 use places::DocWitness;
 use std::alloc::Global;
+use story_blocks::Word::{Count, Id, Number, Shown, Text};
+use story_blocks::{Block, Draft, View};
+use story_drawings::{DrawingKind, Drawn, Named, drawing_of};
+use story_reasons::{
+    Call, OrderBefore, OrderExtent, OrderSearch, Unexplained, end_of, order_before,
+    order_of_witness,
+};
 use version_pair::{DocId, NoMemory};
 
 // The greatest number of versions that a timeline shows.
 const MOST_VERSIONS: usize = 40;
 
-// A document with its calls.
+// A document with all its calls.
+#[derive(Clone, Copy)]
+struct Document<'a, 'h> {
+    id: &'h DocId,
+    records: &'a [Rec],
+}
+
+// The same with the calls that are shown.
 #[derive(Clone, Copy)]
 struct Viewed<'a, 'h> {
     id: &'h DocId,
     records: &'a [Rec],
-    // The calls that are shown.
     calls: &'a [Call<'h>],
 }
 
 // Adds that the history has no such document.
-fn add_stranger(draft: &mut Draft<'_>, view: &View<'_>) -> Result<(), NoMemory> {
+fn add_unknown_document(draft: &mut Draft<'_>, view: &View<'_>) -> Result<(), NoMemory> {
     draft.paragraph(
         "The history has no document \"{}\".",
         &[Shown(view.document)],
@@ -51,7 +54,7 @@ fn add_shown(
         None => "No order of them is known, so it doesn't show when they take effect.",
     };
     draft.paragraph(
-        "The timeline, which the page has, shows {} of the {} calls of {}: those from line {} to line {}. {}",
+        "The timeline on the page shows {} of the {} calls of {}: those from line {} to line {}. {}",
         &[
             Count(viewed.calls.len()),
             Count(viewed.records.len()),
@@ -140,7 +143,7 @@ pub fn add_explained_timeline(
     draft.heading("A timeline of the document")?;
     let mut all = witnesses.iter();
     let Some(witness) = all.find(|it| it.id().as_str() == view.document) else {
-        return add_stranger(draft, view);
+        return add_unknown_document(draft, view);
     };
     let calls = calls_in_view(draft, view, witness.id(), witness.records(), None)?;
     let viewed = Viewed {
@@ -175,8 +178,39 @@ fn order_in_view<S: OrderSearch>(
         return Ok(None);
     }
     let records = viewed.records.iter();
-    let most = records.filter(|record| first <= record.call_at).count();
-    order_before(alloc, unexplained, search, viewed.id, viewed.records, most)
+    let extent = OrderExtent {
+        least: records.filter(|record| first <= record.call_at).count(),
+        most: usize::MAX,
+    };
+    order_before(
+        alloc,
+        unexplained,
+        search,
+        viewed.id,
+        viewed.records,
+        extent,
+    )
+}
+
+// Adds the timeline of the document of this number, with these calls.
+fn add_timeline_of<S: OrderSearch>(
+    draft: &mut Draft<'_>,
+    unexplained: &Unexplained<'_>,
+    search: &S,
+    named: &Named,
+    view: &View<'_>,
+    document: Document<'_, '_>,
+) -> Result<(), NoMemory> {
+    let Document { id, records } = document;
+    let event = Some(unexplained.event);
+    let calls = calls_in_view(draft, view, id, records, event)?;
+    let viewed = Viewed {
+        id,
+        records,
+        calls: calls.as_slice(),
+    };
+    let order = order_in_view(draft.alloc, unexplained, search, viewed)?;
+    add_viewed(draft, viewed, order, Some(named), event)
 }
 
 /// Adds the timeline of a document of a history for which no order was found.
@@ -190,19 +224,17 @@ pub fn add_failing_timeline<S: OrderSearch>(
     let Some(view) = view else {
         return Ok(());
     };
-    let whole = unexplained.whole;
     draft.heading("A timeline of the document")?;
-    let (id, records) = match document_of(whole, view.document) {
-        Some(doc) if doc < whole.docs() => (whole.doc(doc), whole.records(doc)?),
-        _ => return add_stranger(draft, view),
-    };
-    let event = Some(unexplained.event);
-    let calls = calls_in_view(draft, view, id, &records, event)?;
-    let viewed = Viewed {
-        id,
-        records: records.as_slice(),
-        calls: calls.as_slice(),
-    };
-    let order = order_in_view(draft.alloc, unexplained, search, viewed)?;
-    add_viewed(draft, viewed, order, Some(named), event)
+    let whole = unexplained.whole;
+    match document_of(whole, view.document) {
+        Some(doc) if doc < whole.docs() => {
+            let records = whole.records(doc)?;
+            let document = Document {
+                id: whole.doc(doc),
+                records: records.as_slice(),
+            };
+            add_timeline_of(draft, unexplained, search, named, view, document)
+        }
+        _ => add_unknown_document(draft, view),
+    }
 }

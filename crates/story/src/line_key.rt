@@ -1,0 +1,119 @@
+use api_lines::{LineFault, given_line};
+use jiff::Timestamp;
+use memchr::memchr;
+use memchr::memmem::{Finder, find};
+use serde_json::Value;
+use std::alloc::{AllocError, Global};
+use version_pair::NoMemory;
+
+/// A key under which a line may say something beside its event.
+#[derive(Drop)]
+pub struct LineKey {
+    name: &'static str,
+    // Finds the key as it is spelled in quotes: most texts don't have it.
+    quoted: Finder<'static>,
+    // How its member begins behind another one.
+    begin: &'static [u8],
+}
+
+// Returns the value of a line; `None` if it has none.
+fn value_of(alloc: Global, line: &[u8]) -> Result<Option<Value>, NoMemory> {
+    match given_line(alloc, 1, line) {
+        Ok(value) => Ok(value),
+        Err(LineFault::Reported(_)) => Ok(None),
+        Err(LineFault::NoMemory) => Err(AllocError),
+    }
+}
+
+impl LineKey {
+    /// Returns the key under which a line says when it was written.
+    pub fn time() -> LineKey {
+        LineKey {
+            name: "t",
+            quoted: Finder::new(b"\"t\""),
+            begin: b",\"t\":",
+        }
+    }
+
+    /// Returns the key under which a line names who asked.
+    pub fn client() -> LineKey {
+        LineKey {
+            name: "client",
+            quoted: Finder::new(b"\"client\""),
+            begin: b",\"client\":",
+        }
+    }
+
+    /// Returns the key under which a line has a note.
+    pub fn note() -> LineKey {
+        LineKey {
+            name: "note",
+            quoted: Finder::new(b"\"note\""),
+            begin: b",\"note\":",
+        }
+    }
+
+    /// Returns whether the line may have the member.
+    pub fn may_be_in(&self, line: &[u8]) -> bool {
+        self.quoted.find(line).is_some()
+    }
+
+    // Returns what follows the key in the line, if the key surely is one of the line's own object: no other object
+    // and no list begins between the start of the line and it.
+    fn own_member<'l>(&self, line: &'l [u8]) -> Option<&'l [u8]> {
+        let place = find(line, self.begin)?;
+        let before = line.get(1..place)?;
+        if memchr(b'{', before).is_some() || memchr(b'[', before).is_some() {
+            return None;
+        }
+        line.get(place.saturating_add(self.begin.len())..)
+    }
+
+    // Returns the number of milliseconds that the member is, if it can be read without the line's value.
+    fn plain_number(&self, line: &[u8]) -> Option<i64> {
+        let rest = self.own_member(line)?;
+        let end = rest.iter().position(|byte| !byte.is_ascii_digit())?;
+        if !matches!(rest.get(end), Some(b',' | b'}')) {
+            return None;
+        }
+        let digits = str::from_utf8(rest.get(..end)?).ok()?;
+        digits.parse::<i64>().ok()
+    }
+
+    /// Returns the text that the member is, if it can be read without the line's value.
+    pub fn plain_text<'l>(&self, line: &'l [u8]) -> Option<&'l str> {
+        let rest = self.own_member(line)?;
+        if !matches!(rest.first(), Some(b'"')) {
+            return None;
+        }
+        let rest = rest.get(1..)?;
+        let text = rest.get(..memchr(b'"', rest)?)?;
+        if memchr(b'\\', text).is_some() {
+            return None;
+        }
+        str::from_utf8(text).ok()
+    }
+
+    /// Returns the text that the member is; an empty one if the line has none, or one that is no text.
+    pub fn text(&self, alloc: Global, line: &[u8]) -> Result<String, NoMemory> {
+        let value = value_of(alloc, line)?;
+        let member = value.as_ref().and_then(|value| value.get(self.name));
+        match member.and_then(|it| it.as_str()) {
+            Some(text) => String::from_str(alloc, text),
+            None => Ok(String::new(alloc)),
+        }
+    }
+
+    /// Returns the time that the member is, in milliseconds since 1970; `None` if the line has none, or one that
+    /// is no such number.
+    pub fn moment(&self, alloc: Global, line: &[u8]) -> Result<Option<Timestamp>, NoMemory> {
+        let millisecond = match self.plain_number(line) {
+            Some(millisecond) => Some(millisecond),
+            None => {
+                let value = value_of(alloc, line)?;
+                value.and_then(|value| value.get(self.name).and_then(|time| time.as_i64()))
+            }
+        };
+        Ok(millisecond.and_then(|millisecond| Timestamp::from_millisecond(millisecond).ok()))
+    }
+}

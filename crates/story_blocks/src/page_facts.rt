@@ -1,0 +1,144 @@
+use crate::clock::time_of_day;
+use crate::head::{Head, HistoryCounts, Span};
+use crate::view::View;
+use crate::word::Word::{Count, Number, Shown, Text};
+use crate::word::{Word, add_sentence, sentence_of};
+use doc_register::Conflicts;
+use evidence::RulingOut;
+use std::alloc::Global;
+use version_pair::NoMemory;
+
+// The program that explains.
+const PROGRAM: &str = "casbench 0.1.0";
+
+/// What a page says of the check beside its story.
+#[derive(Clone, Copy)]
+pub struct About<'a> {
+    /// The path of the text's file, whose last part is shown; `None` if it is standard input.
+    pub file: Option<&'a str>,
+    /// How conflicts were read.
+    pub conflicts: Conflicts,
+    /// Whether documents were looked for that are ruled out.
+    pub ruling_out: RulingOut,
+    /// How many workers searched.
+    pub workers: usize,
+    /// The document that is drawn as a timeline, if one was asked for.
+    pub view: Option<View<'a>>,
+}
+
+/// What a page says at its top: a name and a value.
+#[derive(Drop)]
+pub struct Fact {
+    pub name: &'static str,
+    pub value: String,
+}
+
+// Adds the options that ask for a timeline.
+fn add_view(text: &mut String, view: &View<'_>) -> Result<(), NoMemory> {
+    add_sentence(text, " --document {}", &[Shown(view.document)])?;
+    if view.is_whole() {
+        return Ok(());
+    }
+    let first = Number(view.first);
+    let last = Number(view.last);
+    add_sentence(text, " --lines {}-{}", &[first, last])
+}
+
+// The facts that are collected.
+#[derive(Drop)]
+struct Facts {
+    alloc: Global,
+    list: Vec<Fact>,
+}
+
+impl Facts {
+    // Adds a fact, its value as a template with words.
+    fn add(
+        &mut self,
+        name: &'static str,
+        template: &str,
+        words: &[Word<'_>],
+    ) -> Result<(), NoMemory> {
+        let value = sentence_of(self.alloc, template, words)?;
+        self.list.push(Fact { name, value })?;
+        Ok(())
+    }
+
+    // Adds when the first line was written, and the last one: their date once, if it is the same.
+    fn add_span(&mut self, span: Span) -> Result<(), NoMemory> {
+        let Span { first, last } = span;
+        let value = match span.date() {
+            Some(date) => {
+                let from = time_of_day(first);
+                let to = time_of_day(last);
+                format!(in self.alloc; "{date}, {from:.3} to {to:.3} (UTC)")?
+            }
+            None => format!(in self.alloc; "{first:.3} to {last:.3}")?,
+        };
+        let name = "written";
+        self.list.push(Fact { name, value })?;
+        Ok(())
+    }
+
+    // Adds the counts of the history.
+    fn add_counts(&mut self, counts: HistoryCounts) -> Result<(), NoMemory> {
+        self.add(
+            "history",
+            "events: {}; calls: {}; documents: {}",
+            &[
+                Count(counts.events),
+                Count(counts.calls),
+                Count(counts.documents),
+            ],
+        )
+    }
+
+    // Adds the options.
+    fn add_options(&mut self, about: &About<'_>) -> Result<(), NoMemory> {
+        let reading = match about.conflicts {
+            Conflicts::Plain => "plain",
+            Conflicts::Maybe => "maybe",
+        };
+        let ruling = match about.ruling_out {
+            RulingOut::On => "--rule-out ",
+            RulingOut::Off => "",
+        };
+        let words = [Text(reading), Text(ruling), Count(about.workers)];
+        let mut value = sentence_of(self.alloc, "--conflicts {} {}--workers {}", &words)?;
+        if let Some(view) = &about.view {
+            add_view(&mut value, view)?;
+        }
+        let name = "options";
+        self.list.push(Fact { name, value })?;
+        Ok(())
+    }
+}
+
+// Returns the name of the file, without the folders before it.
+fn name_of(path: &str) -> &str {
+    match path.rsplit_once("/") {
+        Some((_, name)) => name,
+        None => path,
+    }
+}
+
+/// Returns what a page says at its top.
+pub fn facts_of(alloc: Global, head: &Head, about: &About<'_>) -> Result<Vec<Fact>, NoMemory> {
+    let mut facts = Facts {
+        alloc,
+        list: Vec::new(alloc),
+    };
+    match about.file {
+        Some(path) => facts.add("file", "{}", &[Shown(name_of(path))])?,
+        None => facts.add("file", "standard input", &[])?,
+    }
+    if let Some(span) = head.span {
+        facts.add_span(span)?;
+    }
+    if let Some(counts) = head.counts {
+        facts.add_counts(counts)?;
+    }
+    facts.add_options(about)?;
+    facts.add("program", PROGRAM, &[])?;
+    Ok(facts.list)
+}

@@ -1,0 +1,93 @@
+use crate::named::Named;
+use std::alloc::Global;
+use story_reasons::{Call, Subject};
+use version_pair::NoMemory;
+
+/// The greatest number of calls that are drawn.
+pub const MOST_DRAWN: usize = 200;
+
+/// The greatest number of calls that are shown one by one.
+pub const MOST_DESCRIBED: usize = 40;
+
+/// What is kept of the calls of some documents.
+#[derive(Drop)]
+pub struct Kept<'h> {
+    /// The number of calls.
+    pub calls_count: usize,
+    /// The calls that matter and, of each document, the last ones of the others: enough of them for a
+    /// drawing.
+    pub calls: Vec<Call<'h>>,
+    /// The number of writes without a reply.
+    pub unanswered_count: usize,
+    /// Some of them, the last ones of each document first.
+    pub unanswered: Vec<Call<'h>>,
+}
+
+impl<'h> Kept<'h> {
+    /// Returns what is kept of the calls of these documents, in the order in which they were made.
+    pub fn of(
+        alloc: Global,
+        subjects: &[Subject<'h>],
+        named: &Named,
+    ) -> Result<Kept<'h>, NoMemory> {
+        let mut kept = Kept {
+            calls_count: 0,
+            calls: Vec::new(alloc),
+            unanswered_count: 0,
+            unanswered: Vec::new(alloc),
+        };
+        for subject in subjects {
+            kept.count(named, subject)?;
+            kept.keep(named, subject, true)?;
+            kept.keep(named, subject, false)?;
+        }
+        kept.calls.sort_unstable_by_key(|call| call.record.call_at);
+        kept.unanswered
+            .sort_unstable_by_key(|call| call.record.call_at);
+        Ok(kept)
+    }
+
+    // Counts a call, and keeps it if it is a write without a reply and there is room.
+    fn count_call(&mut self, call: Call<'h>) -> Result<(), NoMemory> {
+        // A history has too few calls for these to reach the greatest number.
+        self.calls_count = self.calls_count.saturating_add(1);
+        if call.may_have_happened() {
+            self.unanswered_count = self.unanswered_count.saturating_add(1);
+            if self.unanswered.len() < MOST_DESCRIBED {
+                self.unanswered.push(call)?;
+            }
+        }
+        Ok(())
+    }
+
+    // Keeps the calls of a document that matter, or the others: the last ones up to the last event that matters.
+    fn keep(
+        &mut self,
+        named: &Named,
+        subject: &Subject<'h>,
+        are_mattering: bool,
+    ) -> Result<(), NoMemory> {
+        let mut kept = 0;
+        for record in subject.all().iter().rev() {
+            let call = subject.call(record);
+            if kept < MOST_DRAWN
+                && record.call_at <= named.last
+                && named.matters(&call) == are_mattering
+            {
+                kept += 1;
+                self.calls.push(call)?;
+            }
+        }
+        Ok(())
+    }
+
+    // Counts the calls of a document, up to the last event that matters.
+    fn count(&mut self, named: &Named, subject: &Subject<'h>) -> Result<(), NoMemory> {
+        for record in subject.all().iter().rev() {
+            if record.call_at <= named.last {
+                self.count_call(subject.call(record))?;
+            }
+        }
+        Ok(())
+    }
+}

@@ -1,0 +1,108 @@
+use crate::anomaly::Anomaly;
+use crate::calls::end_of;
+use crate::diagnosis::anomaly_of;
+use crate::lost_writes::{LostWrites, lost_writes};
+use crate::reason::{Reason, found_reason};
+use crate::subject::Unexplained;
+use crate::subjects::Subject;
+use events::Rec;
+use evidence::is_document_ruled_out;
+use std::alloc::Global;
+use version_pair::NoMemory;
+
+/// How many documents show an anomaly.
+#[derive(Clone, Copy)]
+pub struct AnomalyCount {
+    pub anomaly: Anomaly,
+    pub documents: usize,
+    /// The positions of the first and of the last reply that shows it.
+    pub first: usize,
+    pub last: usize,
+}
+
+/// How much of a history is broken: the documents that are refuted on their own, each ruled out by its own
+/// answered calls.
+#[derive(Drop)]
+pub struct Damage {
+    /// The number of these documents.
+    pub documents: usize,
+    /// The number of those that the explanation isn't about.
+    pub others: usize,
+    /// The anomalies that they show.
+    pub counts: Vec<AnomalyCount>,
+    /// Their acknowledged writes that are never seen again, if there are some.
+    pub lost: Option<LostWrites>,
+}
+
+impl Damage {
+    // Counts the anomaly of a document, which the reply at this position shows.
+    fn count(&mut self, anomaly: Anomaly, event: usize) -> Result<(), NoMemory> {
+        for count in self.counts.iter_mut() {
+            if count.anomaly == anomaly {
+                // A history has too few documents for the sum to reach the greatest number.
+                count.documents = count.documents.saturating_add(1);
+                count.first = count.first.min(event);
+                count.last = count.last.max(event);
+                return Ok(());
+            }
+        }
+        self.counts.push(AnomalyCount {
+            anomaly,
+            documents: 1,
+            first: event,
+            last: event,
+        })?;
+        Ok(())
+    }
+
+    // Adds the writes of a document that are never seen again.
+    fn add_lost(&mut self, lost: LostWrites) {
+        self.lost = Some(match self.lost {
+            Some(before) => before.with(lost),
+            None => lost,
+        });
+    }
+
+    // Adds a document that is ruled out, with the reason.
+    fn add(&mut self, alloc: Global, reason: &Reason, records: &[Rec]) -> Result<(), NoMemory> {
+        let anomaly = anomaly_of(reason, records);
+        self.documents = self.documents.saturating_add(1);
+        self.count(anomaly, end_of(&reason.stop))?;
+        if anomaly.is_of_state() {
+            if let Some(lost) = lost_writes(alloc, reason, records)? {
+                self.add_lost(lost);
+            }
+        }
+        Ok(())
+    }
+}
+
+/// Returns how much of the whole history is broken. It takes one walk over each document.
+pub fn damage_of(
+    alloc: Global,
+    unexplained: &Unexplained<'_>,
+    subjects: &[Subject<'_>],
+) -> Result<Damage, NoMemory> {
+    let whole = unexplained.whole;
+    let conflicts = unexplained.conflicts;
+    let mut damage = Damage {
+        documents: 0,
+        others: 0,
+        counts: Vec::new(alloc),
+        lost: None,
+    };
+    for doc in 0..whole.docs() {
+        if !is_document_ruled_out(alloc, whole, doc, conflicts)? {
+            continue;
+        }
+        let records = whole.records(doc)?;
+        let id = whole.doc(doc);
+        if let Some(reason) = found_reason(alloc, unexplained.evidence, &records, conflicts)? {
+            damage.add(alloc, &reason, &records)?;
+            if !subjects.iter().any(|it| it.id.as_str() == id.as_str()) {
+                damage.others = damage.others.saturating_add(1);
+            }
+        }
+    }
+    Ok(damage)
+}

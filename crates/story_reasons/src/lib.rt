@@ -1,0 +1,38 @@
+//! What an explanation rests on: the calls that evidence names, why no order explains the replies of a document, what
+//! the calls show of a store, and how much of a history is broken. Nothing is promised of it but safety: the verdict is
+//! proved elsewhere, and a reason is a guess for people, given only for documents that are ruled out.
+//!
+//! ```text
+//! let subjects = Subjects::of(alloc, &unexplained)?;
+//! let diagnosis = diagnosis_of(&unexplained, &subjects.list); // the anomaly that the calls show
+//! ```
+#![tactic(auto)]
+
+mod anomaly;
+mod calls;
+mod coverage;
+mod damage;
+mod diagnosis;
+mod falling_versions;
+mod lost_writes;
+mod order_search;
+mod order_steps;
+mod reason;
+mod subject;
+mod subjects;
+mod window;
+
+pub use anomaly::Anomaly;
+pub use calls::{Call, EvidenceCalls, call_of, end_of, overlap};
+pub use coverage::{CallKind, Terms, count_of, overlapping_of, terms_of};
+pub use damage::{AnomalyCount, Damage, damage_of};
+pub use diagnosis::{Diagnosis, diagnosis_of};
+pub use falling_versions::version_fall;
+pub use lost_writes::LostWrites;
+pub use order_search::OrderSearch;
+pub use order_steps::{
+    OrderBefore, OrderExtent, OrderStep, order_before, order_of_witness, record_at,
+};
+pub use reason::{Reason, ReasonLink, Unreported, shows};
+pub use subject::{Explained, Unexplained};
+pub use subjects::{Subject, Subjects};

@@ -1,0 +1,150 @@
+use crate::calls::{Call, EvidenceCalls, call_of, end_of};
+use crate::reason::{Reason, reason_of};
+use crate::subject::Unexplained;
+use events::{History, Rec};
+use evidence::Refuted;
+use std::alloc::Global;
+use version_pair::{DocId, NoMemory};
+
+/// A document that an explanation is about.
+#[derive(Drop)]
+pub struct Subject<'h> {
+    pub id: &'h DocId,
+    pub shard: u32,
+    /// Its calls in the history that the reasons are about.
+    pub records: Vec<Rec>,
+    // Its calls in the whole history, if that is longer.
+    whole_records: Option<Vec<Rec>>,
+    /// Why no order explains it, if it is ruled out.
+    pub reason: Option<Reason>,
+}
+
+impl<'h> Subject<'h> {
+    /// Returns one of its calls, with the document.
+    pub fn call(&self, record: &Rec) -> Call<'h> {
+        Call {
+            id: self.id,
+            shard: self.shard,
+            record: *record,
+        }
+    }
+
+    /// Returns its calls in the whole history.
+    pub fn all(&self) -> &[Rec] {
+        match &self.whole_records {
+            Some(records) => records.as_slice(),
+            None => self.records.as_slice(),
+        }
+    }
+}
+
+/// The documents that an explanation is about.
+#[derive(Drop)]
+pub struct Subjects<'h> {
+    /// What the explanation is of.
+    pub unexplained: Unexplained<'h>,
+    /// The documents of the offence and of the evidence, the offence's first.
+    pub list: Vec<Subject<'h>>,
+}
+
+// Adds the number of the call's document, unless it is there.
+fn add_document(history: &History, no: u64, docs: &mut Vec<usize>) -> Result<(), NoMemory> {
+    let call = call_of(history, no);
+    if let Some(doc) = call.and_then(|call| history.doc_of(call.id)) {
+        if !docs.contains(&doc) {
+            docs.push(doc)?;
+        }
+    }
+    Ok(())
+}
+
+// Returns the numbers of the documents of the offence and of the evidence, each once, the offence's first.
+fn documents_of(alloc: Global, unexplained: &Unexplained<'_>) -> Result<Vec<usize>, NoMemory> {
+    let history = unexplained.history;
+    let mut docs = Vec::new(alloc);
+    add_document(history, unexplained.call, &mut docs)?;
+    if let Some(evidence) = unexplained.evidence {
+        let calls = EvidenceCalls::of(evidence);
+        add_document(history, calls.first, &mut docs)?;
+        if let Some(second) = calls.second {
+            add_document(history, second, &mut docs)?;
+        }
+    }
+    Ok(docs)
+}
+
+// Returns the calls of the document in the whole history, if that is longer than the one that the reasons are about.
+fn whole_records(unexplained: &Unexplained<'_>, id: &DocId) -> Result<Option<Vec<Rec>>, NoMemory> {
+    let whole = unexplained.whole;
+    match whole.doc_of(id) {
+        Some(doc) if doc < whole.docs() && unexplained.history.len() < whole.len() => {
+            Ok(Some(whole.records(doc)?))
+        }
+        _ => Ok(None),
+    }
+}
+
+// Whether the reply to the call stands up to the broken one.
+fn is_early(unexplained: &Unexplained<'_>, no: u64) -> bool {
+    call_of(unexplained.history, no).is_some_and(|call| end_of(&call.record) <= unexplained.event)
+}
+
+// Whether there is no evidence of one call or two.
+fn is_ruled_out(unexplained: &Unexplained<'_>) -> bool {
+    matches!(unexplained.evidence, None | Some(Refuted::RuledOut(_)))
+}
+
+// Whether one call or two are evidence that is complete with the broken reply. Then no reason needs a later line.
+fn is_evident_early(unexplained: &Unexplained<'_>) -> bool {
+    match unexplained.evidence {
+        None | Some(Refuted::RuledOut(_)) => false,
+        Some(evidence) => {
+            let calls = EvidenceCalls::of(evidence);
+            is_early(unexplained, calls.first)
+                && calls.second.is_none_or(|no| is_early(unexplained, no))
+        }
+    }
+}
+
+impl<'h> Subjects<'h> {
+    /// Returns those of what is explained.
+    pub fn of(alloc: Global, unexplained: &Unexplained<'h>) -> Result<Subjects<'h>, NoMemory> {
+        let history = unexplained.history;
+        let is_evident = is_evident_early(unexplained);
+        let mut list = Vec::new(alloc);
+        for doc in documents_of(alloc, unexplained)?.iter() {
+            if *doc < history.docs() {
+                let records = history.records(*doc)?;
+                let reason = reason_of(alloc, unexplained, *doc, &records)?.filter(
+                    |reason| !is_evident || !reason.names_after(unexplained.event),
+                );
+                let id = history.doc(*doc);
+                list.push(Subject {
+                    id,
+                    shard: history.shard(*doc),
+                    records,
+                    whole_records: whole_records(unexplained, id)?,
+                    reason,
+                })?;
+            }
+        }
+        Ok(Subjects {
+            unexplained: *unexplained,
+            list,
+        })
+    }
+
+    /// Returns whether a reason that an explanation gives names a call or a reply after the broken one: a call of
+    /// the evidence, or what a document that is ruled out rests on.
+    pub fn cite_later(&self) -> bool {
+        if is_evident_early(&self.unexplained) {
+            return false;
+        }
+        let event = self.unexplained.event;
+        let mut reasons = self
+            .list
+            .iter()
+            .filter_map(|subject| subject.reason.as_ref());
+        !is_ruled_out(&self.unexplained) || reasons.any(|reason| reason.names_after(event))
+    }
+}
