@@ -1,15 +1,21 @@
 -- What is written of several texts that are checked.
-use Rattle.std.specs.Prelude.{◌≡◌, ℕ, List, [], ◌∷◌, ◌++◌, Option, IfSome, codes, map, take}
+use Rattle.std.specs.Prelude.{◌≡◌, ℕ, true, List, [], ◌∷◌, ◌++◌, Option, Some, IfSome, codes, map, take}
 use Rattle.std.specs.Io.KnownBytes.{Appends}
 use Rattle.std.specs.List.{All, flat_map}
 use Rattle.casbench.specs.Exit.{greater_outcome}
+use Rattle.casbench.specs.Input.{names_input}
 use Rattle.casbench.specs.Outcomes.{IsJudged, status_of}
+use Rattle.casbench.specs.declared.check_each.Written.{Written}
+use Rattle.casbench.specs.declared.form.Form.{Form}
+use Rattle.casbench.specs.declared.form.Form.TheVariants.{Lines, Objects}
 use Rattle.casbench.specs.declared.named_text.NamedText.{NamedText}
 use Rattle.casbench.specs.declared.outcome.Outcome.{Outcome}
 use Rattle.casbench.specs.declared.outcome.Outcome.TheVariants.{Answered}
 use Rattle.doc_register.specs.declared.state.Conflicts.{Conflicts}
 use Rattle.evidence.specs.declared.ruling_out.RulingOut.{RulingOut}
+use Rattle.report.specs.Calls.{CountsCalls}
 use Rattle.report.specs.Verdict.{AnswersInput}
+use Rattle.result_lines.specs.Objects.{IsObjectOf}
 use Rattle.stream_io.specs.declared.status.Status.TheVariants.{Yes}
 
 -- a text: its name, and its bytes, if they are known
@@ -22,17 +28,31 @@ Named = List ℕ × Option (List ℕ)
 abbrev pub named_of : {S : Type 0} → (S → Option (List ℕ)) → NamedText S → Named
 named_of remaining text = (text.name.now, remaining text.source)
 
--- The line of one text behind its name and a colon: it answers the bytes, as a check of the text alone does
+-- what is written of a text in this form, if this is its line: the line behind the text's name and a colon; or the
+-- object of the line (`IsObjectOf`)
+-- Source: profile.
+abbrev pub IsInForm : Form → List ℕ → List ℕ → List ℕ → Type 0
+IsInForm Lines name line written = written ≡ name ++ (codes ": " ++ line)
+IsInForm Objects name line written = IsObjectOf name line written
+
+-- What is written of one text: a line, in this form, which answers the bytes as a check of the text alone does
 -- (`AnswersInput`, `IsJudged`).
 -- Source: profile.
-pub record AnswersOne (ruling : RulingOut) (conflicts : Conflicts) (least : ℕ) (text : Named) (outcome : Outcome) (written : List ℕ) : Type 0 where
+pub record AnswersOne (ruling : RulingOut) (conflicts : Conflicts) (least : ℕ) (form : Form) (text : Named) (outcome : Outcome) (written : List ℕ) : Type 0 where
   pub line : List ℕ
-  -- the name stands before it
-  pub named : written ≡ text.0 ++ (codes ": " ++ line)
+  -- it is written in this form
+  pub named : IsInForm form text.0 line written
   -- it answers the bytes, with the status of the outcome
   pub answers : AnswersInput ruling conflicts text.1 (status_of outcome) line
   -- a yes is about fewer calls than are asked for just if the outcome is `TooFew`
   pub judged : IfSome text.1 (λ input. IsJudged least input outcome)
+
+-- what is written of a text, before it is known how many calls are asked for
+pub record IsWrittenOf (ruling : RulingOut) (conflicts : Conflicts) (form : Form) (name : List ℕ) (input : Option (List ℕ)) (it : Written) : Type 0 where
+  pub line : List ℕ
+  pub named : IsInForm form name line it.text.items
+  pub answers : AnswersInput ruling conflicts input it.status line
+  pub counted : IfSome input (λ bytes. CountsCalls bytes it.status it.calls)
 
 -- A text that was checked: what it is, what the check came to, and the line that is written of it.
 -- Source: profile.
@@ -46,21 +66,35 @@ unfoldable pub greatest_from : Outcome → List CheckedText → Outcome
 greatest_from outcome [] = outcome
 greatest_from outcome (c ∷ cs) = greatest_from (greater_outcome outcome c.outcome) cs
 
--- What is written of several texts, and what it comes to.
+-- What is written of several texts in a form, and what it comes to.
 -- Source: profile.
-pub record AnswersEach (ruling : RulingOut) (conflicts : Conflicts) (least : ℕ) (texts : List Named) (outcome : Outcome) (written : List ℕ) : Type 0 where
+pub record AnswersEach (ruling : RulingOut) (conflicts : Conflicts) (least : ℕ) (form : Form) (texts : List Named) (outcome : Outcome) (written : List ℕ) : Type 0 where
   pub checked : List CheckedText
   -- each of the texts was checked, in their order
   pub each : texts ≡ map (λ c. c.text) checked
   -- the line of each answers its bytes (`AnswersOne`)
-  pub answered : All (λ c. AnswersOne ruling conflicts least c.text c.outcome c.line) checked
+  pub answered : All (λ c. AnswersOne ruling conflicts least form c.text c.outcome c.line) checked
   -- the lines are written in this order
   pub lines : written ≡ flat_map (λ c. c.line) checked
   -- the outcome is that with the greatest exit status; of no text it is yes
   pub greatest : outcome ≡ greatest_from (Answered Yes) checked
 
+-- The texts are those of files of these names, in their order; that of `-` is what standard input has.
+-- Source: profile.
+pub record AreOfFiles (files : List (List ℕ)) (given : Option (List ℕ)) (texts : List Named) : Type 0 where
+  -- they have these names
+  pub names : map (λ t. t.0) texts ≡ files
+  -- a text that is named `-` has the bytes of standard input
+  pub input : All (λ t. names_input (Some t.0) ≡ true → t.1 ≡ given) texts
+
+-- the names of the files; that of standard input if there is none
+-- Source: profile.
+abbrev pub or_input : List (List ℕ) → List (List ℕ)
+or_input [] = codes "-" ∷ []
+or_input (name ∷ names) = name ∷ names
+
 -- the writer holds, after what it held, a prefix of what is written of the texts, which may be empty, or all of it
 -- Source: profile.
-abbrev pub IsCutOffEach : RulingOut → Conflicts → ℕ → List Named → Option (List ℕ) → Option (List ℕ) → Type 0
-IsCutOffEach ruling conflicts least texts old new =
-    (outcome : Outcome) × (written : List ℕ) × (n : ℕ) × Appends old new (take n written) × AnswersEach ruling conflicts least texts outcome written
+abbrev pub IsCutOffEach : RulingOut → Conflicts → ℕ → Form → List Named → Option (List ℕ) → Option (List ℕ) → Type 0
+IsCutOffEach ruling conflicts least form texts old new =
+    (outcome : Outcome) × (written : List ℕ) × (n : ℕ) × Appends old new (take n written) × AnswersEach ruling conflicts least form texts outcome written

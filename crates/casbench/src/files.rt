@@ -1,5 +1,6 @@
 ghost use Rattle.std.specs.Prelude.{◌≡◌, ◌⊎◌, true, Ok, Some, None, IfErr, IfOk, map, option_map};
 ghost use Rattle.std.specs.List.{All};
+ghost use Rattle.casbench.specs.Each.{or_input};
 ghost use Rattle.casbench.specs.Input.{names_input};
 ghost use Rattle.casbench.specs.aids.Source.{remaining_of};
 ghost use Rattle.casbench.specs.declared.files.Source.TheVariants.{Input};
@@ -148,6 +149,36 @@ pub fn open_each<'a, R: Files + Eprint, I: Drop>(
         }
     }
     Ok(texts)
+}
+
+/// Opens each of the files as `open_each` does; the input, named `-`, if there are none.
+///
+/// Errors: `Read` if a file can't be opened, and `NoMemory`.
+pub fn open_each_or<'a, R: Files + Eprint, I: Drop>(
+    rt: &R,
+    alloc: Global,
+    names: &[&'a str],
+    input: I,
+) -> Result<Vec<NamedText<'a, Source<R::File, I>>>, StreamFault>
+    // They have these names, in this order.
+    ensures names { IfOk result (λ texts. map (λ t. t.name.now) texts.items ≡ or_input (map (λ n. n.now) names.now)) }
+    // A text that is named `-` is the input itself.
+    ensures input { IfOk result (λ texts. All (λ t. names_input (Some t.name.now) ≡ true → t.source ≡ Input input) texts.items) }
+    // The only errors are `Read` and `NoMemory`.
+    ensures err { IfErr result (λ fault. (fault ≡ StreamFault.Read) ⊎ (fault ≡ StreamFault.NoMemory)) }
+{
+    if !names.is_empty() {
+        return open_each(rt, alloc, names, input);
+    }
+    let mut texts = Vec::new(alloc);
+    let text = NamedText {
+        name: INPUT,
+        source: Source::Input(input),
+    };
+    match texts.push(text) {
+        Ok(()) => Ok(texts),
+        Err(_) => Err(StreamFault::NoMemory),
+    }
 }
 
 /// Opens both files as by `open_or`, the first before the second. If the first can't be opened, the second

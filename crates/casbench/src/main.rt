@@ -11,13 +11,16 @@ mod check;
 mod check_each;
 mod exit;
 mod files;
+mod form;
 mod named_text;
 mod notes;
+mod objects;
 mod outcome;
 mod output;
 mod page_file;
 mod run;
 mod search_reporter;
+mod stopwatch;
 
 use clap::error::ErrorKind;
 use command_line::read_request;

@@ -21,24 +21,38 @@ fn files_of<'a>(request: &Request<'a>) -> (Option<&'a str>, Option<&'a str>) {
     match *request {
         Request::Check { file, .. }
         | Request::Witness { file, .. }
+        | Request::WitnessInJson { file, .. }
         | Request::Explain { file, .. } => (Some(file.unwrap_or(INPUT)), None),
         Request::Verify {
             history,
             witness,
             ..
+        }
+        | Request::VerifyInJson {
+            history,
+            witness,
+            ..
         } => (Some(history), Some(witness)),
         Request::Bulk { body, reply, .. } => (Some(body), Some(reply)),
-        Request::CheckEach { .. } | Request::Run(..) | Request::Search(..) => (None, None),
+        Request::CheckEach { .. }
+        | Request::CheckInJson { .. }
+        | Request::Run(..)
+        | Request::Search(..) => (None, None),
     }
 }
 
 // Whether standard input is among the texts that are read.
 fn reads_input(request: &Request<'_>) -> bool {
-    if let Request::CheckEach { files, .. } = request {
-        return files.iter().any(|file| *file == INPUT);
+    match request {
+        Request::CheckEach { files, .. } => files.iter().any(|file| *file == INPUT),
+        Request::CheckInJson { files, .. } => {
+            files.is_empty() || files.iter().any(|file| *file == INPUT)
+        }
+        _ => {
+            let (first, second) = files_of(request);
+            first == Some(INPUT) || second == Some(INPUT)
+        }
     }
-    let (first, second) = files_of(request);
-    first == Some(INPUT) || second == Some(INPUT)
 }
 
 // Whether a device of this number is a terminal: a console or serial line, which drivers 4 and 5 have on

@@ -1,4 +1,4 @@
-ghost use Rattle.std.specs.Prelude.{◌≡◌, ◌≢◌, ◌≤◌, ◌⊎◌, ℕ, true, List, Option, IfErr, IfOk, IfSome, IsErrOf, option_map};
+ghost use Rattle.std.specs.Prelude.{◌≡◌, ◌≢◌, ◌≤◌, ◌⊎◌, ℕ, true, List, Option, IfErr, IfOk, IfSome, IsErrOf, codes, map, option_map, unwrap_or};
 ghost use Rattle.std.proofs.Common.{Bor};
 ghost use Rattle.std.specs.Io.KnownBytes.{Keeps};
 ghost use Rattle.doc_register.specs.declared.state.Conflicts.{Conflicts as Reading};
@@ -12,7 +12,11 @@ ghost use Rattle.recorded_runs.specs.declared.run_setting.RunSetting.{RunSetting
 ghost use Rattle.seed_search.specs.Found.{IsFoundText, IsSearched};
 ghost use Rattle.recorded_runs.specs.declared.seeds.Seeds.{Seeds as Range};
 ghost use Rattle.disturbances.specs.declared.disturbance.Disturbance.{Disturbance as Way};
+ghost use Rattle.casbench.specs.Each.{AnswersEach, AreOfFiles, Named, or_input};
 ghost use Rattle.casbench.specs.Faults.{MayFail};
+ghost use Rattle.casbench.specs.Objects.{WitnessesInJson};
+ghost use Rattle.casbench.specs.declared.form.Form.TheVariants.{Objects};
+ghost use Rattle.std.proofs.Common.{Global, Vec};
 ghost use Rattle.command_line.specs.declared.page_request.PageRequest.{PageRequest as Page};
 ghost use Rattle.casbench.specs.Input.{names_input};
 ghost use Rattle.casbench.specs.Outcomes.{IsAnswerWith, IsJudged, status_of};
@@ -21,7 +25,9 @@ ghost use Rattle.stream_io.specs.Written.{HasAnswer, HasPrefix};
 
 use crate::check::check;
 use crate::check_each::check_each;
-use crate::files::{INPUT, open_both, open_each, open_or};
+use crate::files::{INPUT, open_both, open_each, open_each_or, open_or};
+use crate::form::Form;
+use crate::objects::{verify_in_json, witness_in_json};
 use crate::outcome::Outcome;
 use crate::page_file::{ReadyPage, refuse_history};
 use crate::search_reporter::SearchReporter;
@@ -40,6 +46,7 @@ use std::io::{Read, Write};
 use std::rt::Files;
 use std::sync::Wait;
 use std::thread::Threads;
+use std::time::Clock;
 use workload::Target;
 
 // Returns the options of a check. The number of workers is the nearest one from 1 to 16 if it is another,
@@ -117,6 +124,40 @@ fn explain<F: Files + Eprint, T: Threads + Wait + Sync, R: Read, W: Write>(
     }
 }
 
+// Checks the texts of the files, or of the input if there are none, and writes an object for each.
+fn check_in_json<R: Files + Eprint + Clock, T: Threads + Wait + Sync, I: Read + Drop, W: Write>(
+    rt: &R,
+    threads: &T,
+    alloc: Global,
+    keys: HashKeys,
+    files: &[&str],
+    input: I,
+    writer: &mut W,
+    options: CheckOptions,
+    at_least: u64,
+) -> Result<Outcome, StreamFault>
+    requires workers { AreWorkers options.workers }
+    ensures answered { IfOk result (λ outcome. (texts : List Named)
+        × AreOfFiles (or_input (map (λ f. f.now) files.now)) (I.remaining input) texts
+        × HasAnswer (AnswersEach options.ruling_out options.conflicts at_least Objects texts outcome) (W.contents writer.old) (W.contents writer.new)) }
+    ensures kept { IfErr result (λ fault. fault ≢ StreamFault.Write
+        → Keeps (W.contents writer.old) (W.contents writer.new)) }
+    ensures reported { IfErr result IsWorkedFault }
+{
+    let texts = open_each_or(rt, alloc, files, input)?;
+    check_each(
+        rt,
+        threads,
+        alloc,
+        keys,
+        texts,
+        writer,
+        options,
+        at_least,
+        Form::Objects,
+    )
+}
+
 /// Does what the arguments ask for: opens the files in the order in which they were named, `-` being the
 /// input, then reads, and writes the answer. Workers run on `threads`; ids and pairs are found by hashes with
 /// these keys.
@@ -131,7 +172,7 @@ fn explain<F: Files + Eprint, T: Threads + Wait + Sync, R: Read, W: Write>(
 /// `kept` and `reported` are the only clauses about a `verify`, a `bulk` and a check of several files: that
 /// their texts, and the reading of conflicts, are passed on to their streams and to `check_each` is tested, not
 /// proved.
-pub fn run<R: Files + Eprint, T: Threads + Wait + Sync, I: Read + Drop, W: Write>(
+pub fn run<R: Files + Eprint + Clock, T: Threads + Wait + Sync, I: Read + Drop, W: Write>(
     alloc: Global,
     keys: HashKeys,
     rt: &R,
@@ -157,6 +198,18 @@ pub fn run<R: Files + Eprint, T: Threads + Wait + Sync, I: Read + Drop, W: Write
         → request.now ≡ Request.Witness file conflicts ruling
         → names_input (option_map (λ t. t.now) file) ≡ true
         → IfOk result (IsAnswerWith (λ status. HasAnswer (WitnessesInput ruling conflicts (I.remaining input) status)
+        (W.contents writer.old) (W.contents writer.new))) }
+    // A check that answers in objects writes one for each file, in their order, whose members are those of the line
+    // of its text; if no file is named it is one of the input.
+    ensures checked_in_json { (files : Vec (Bor (List ℕ)) Global) (conflicts : Reading) (workers : ℕ) (ruling : Ruling) (least : ℕ)
+        → request.now ≡ Request.CheckInJson files conflicts workers ruling least
+        → IfOk result (λ outcome. (texts : List Named) × AreOfFiles (or_input (map (λ f. f.now) files.items)) (I.remaining input) texts
+        × HasAnswer (AnswersEach ruling conflicts least Objects texts outcome) (W.contents writer.old) (W.contents writer.new)) }
+    // A witness of the input is written as with `witnessed`, but for an object in place of a line.
+    ensures witnessed_in_json { (file : Option (Bor (List ℕ))) (conflicts : Reading) (ruling : Ruling)
+        → request.now ≡ Request.WitnessInJson file conflicts ruling
+        → names_input (option_map (λ t. t.now) file) ≡ true
+        → IfOk result (IsAnswerWith (λ status. HasAnswer (WitnessesInJson (unwrap_or (option_map (λ t. t.now) file) (codes "-")) ruling conflicts (I.remaining input) status)
         (W.contents writer.old) (W.contents writer.new))) }
     // A check of the input that is explained begins with its answer, whether a page is written too or not.
     ensures explained { (file : Option (Bor (List ℕ))) (conflicts : Reading) (workers : ℕ) (ruling : Ruling) (page : Option Page)
@@ -249,6 +302,26 @@ pub fn run<R: Files + Eprint, T: Threads + Wait + Sync, I: Read + Drop, W: Write
                 writer,
                 options_of(workers, conflicts, ruling_out),
                 at_least,
+                Form::Lines,
+            )
+        }
+        Request::CheckInJson {
+            ref files,
+            conflicts,
+            workers,
+            ruling_out,
+            at_least,
+        } => {
+            check_in_json(
+                rt,
+                threads,
+                alloc,
+                keys,
+                files,
+                input,
+                writer,
+                options_of(workers, conflicts, ruling_out),
+                at_least,
             )
         }
         Request::Witness {
@@ -267,6 +340,44 @@ pub fn run<R: Files + Eprint, T: Threads + Wait + Sync, I: Read + Drop, W: Write
         } => {
             let (mut history, mut witness) = open_both(rt, history, witness, input)?;
             let status = verify_stream(alloc, keys, &mut history, &mut witness, writer, conflicts)?;
+            Ok(Outcome::Answered(status))
+        }
+        Request::WitnessInJson {
+            file,
+            conflicts,
+            ruling_out,
+        } => {
+            let mut history = open_or(rt, file, input)?;
+            let name = file.unwrap_or(INPUT);
+            let status = witness_in_json(
+                rt,
+                alloc,
+                keys,
+                name,
+                &mut history,
+                writer,
+                conflicts,
+                ruling_out,
+            )?;
+            Ok(Outcome::Answered(status))
+        }
+        Request::VerifyInJson {
+            history,
+            witness,
+            conflicts,
+        } => {
+            let (mut history_text, mut witness_text) = open_both(rt, history, witness, input)?;
+            let status = verify_in_json(
+                rt,
+                alloc,
+                keys,
+                history,
+                witness,
+                &mut history_text,
+                &mut witness_text,
+                writer,
+                conflicts,
+            )?;
             Ok(Outcome::Answered(status))
         }
         Request::Bulk { body, reply, first } => {

@@ -1,5 +1,5 @@
 -- What the arguments of the command line ask for. `Request` is what the code made of them.
-use Rattle.std.specs.Prelude.{ℕ, ◌==◌, Bool, true, List, Option, Some, None, ◌&&◌, ◌^◌, codes, if◌then◌else◌, [], length, map, nat_lt, option_and_then, option_map, slice_get, unwrap_or}
+use Rattle.std.specs.Prelude.{ℕ, ◌==◌, Bool, false, true, List, Option, Some, None, ◌&&◌, ◌^◌, codes, if◌then◌else◌, [], length, map, nat_lt, option_and_then, option_map, slice_get, unwrap_or}
 use Rattle.std.specs.Char.{digit_value}
 use Rattle.std.specs.List.{after_first, before_first, list_all, position_or_len}
 use Rattle.std.specs.Str.{bytes_eq}
@@ -51,6 +51,12 @@ pub data Asked : Type 0 where
   ToWitness : Option Text → Conflicts → RulingOut → Asked
   -- a check of a witness against a history, of two files, with a reading of conflicts
   ToVerify : Text → Text → Conflicts → Asked
+  -- a check of each of some files, or of standard input if there is none, which answers in objects of JSON
+  ToCheckInJson : List Text → Conflicts → ℕ → RulingOut → ℕ → Asked
+  -- a witness, or why there is none as an object of JSON
+  ToWitnessInJson : Option Text → Conflicts → RulingOut → Asked
+  -- a check of a witness which answers in an object of JSON
+  ToVerifyInJson : Text → Text → Conflicts → Asked
   -- the lines of a bulk's body and its reply, of two files, the calls numbered from a number on
   ToWriteBulk : Text → Text → ℕ → Asked
   -- a run with a setting, in a manner
@@ -75,6 +81,9 @@ asked_by (request.Check file conflicts workers ruling at_least) = ToCheck (optio
 asked_by (request.CheckEach files conflicts workers ruling at_least) = ToCheckEach (map (λ f. f.now) files.items) conflicts workers ruling at_least
 asked_by (request.Witness file conflicts ruling) = ToWitness (option_map (λ f. f.now) file) conflicts ruling
 asked_by (request.Verify history witness conflicts) = ToVerify history.now witness.now conflicts
+asked_by (request.CheckInJson files conflicts workers ruling at_least) = ToCheckInJson (map (λ f. f.now) files.items) conflicts workers ruling at_least
+asked_by (request.WitnessInJson file conflicts ruling) = ToWitnessInJson (option_map (λ f. f.now) file) conflicts ruling
+asked_by (request.VerifyInJson history witness conflicts) = ToVerifyInJson history.now witness.now conflicts
 asked_by (request.Bulk body reply first) = ToWriteBulk body.now reply.now first
 asked_by (request.Run setting manner) = ToRun setting manner
 asked_by (request.Search seeds setting disturbance) = ToSearch seeds.first seeds.last setting disturbance
@@ -101,6 +110,12 @@ abbrev pub number_or : ℕ → Option Text → Option ℕ
 number_or other None = Some other
 number_or other (Some text) = if is_number text then Some (digits_value 10 (without_leading_plus text)) else None
 
+-- true if an option without a value is given, whose text is then `true`
+-- Source: profile.
+abbrev pub flag_given : Option Text → Bool
+flag_given None = false
+flag_given (Some text) = bytes_eq text (codes "true")
+
 -- On if the option `--rule-out` is given, whose text is then `true`; otherwise Off
 abbrev pub ruling_given : Option Text → RulingOut
 ruling_given None = Off
@@ -111,18 +126,20 @@ ruling_given (Some text) = if bytes_eq text (codes "true") then On else Off
 abbrev pub texts_of : Text → List Row → List Text
 texts_of name rows = unwrap_or (all_of name rows) []
 
--- a check of each of the files if there are two or more, and else of the one file, or of standard input
+-- a check that answers in objects if that is asked for; else a check of each of the files if there are two or more,
+-- and of the one file, or of standard input, if there are fewer
 -- Source: profile.
-abbrev pub to_check : List Text → Conflicts → ℕ → RulingOut → ℕ → Asked
-to_check files conflicts workers ruling at_least =
-    if nat_lt 1 (length files) then ToCheckEach files conflicts workers ruling at_least
-    else ToCheck (slice_get files 0) conflicts workers ruling at_least
+abbrev pub to_check : Bool → List Text → Conflicts → ℕ → RulingOut → ℕ → Asked
+to_check in_json files conflicts workers ruling at_least =
+    if in_json then ToCheckInJson files conflicts workers ruling at_least
+    else (if nat_lt 1 (length files) then ToCheckEach files conflicts workers ruling at_least
+    else ToCheck (slice_get files 0) conflicts workers ruling at_least)
 
 -- the check of these files that arguments ask for, by one worker if no number is given, and of 0 calls or
 -- more if no least number is; nothing if the name of the reading is unknown, or one of the numbers is none
 abbrev pub checked_of : List Text → List Row → Option Asked
 checked_of files rows =
-    option_and_then (λ conflicts. option_and_then (λ n. option_map (λ at_least. to_check files conflicts n (ruling_given (first_of (codes "rule-out") rows)) at_least)
+    option_and_then (λ conflicts. option_and_then (λ n. option_map (λ at_least. to_check (flag_given (first_of (codes "json") rows)) files conflicts n (ruling_given (first_of (codes "rule-out") rows)) at_least)
     (number_or 0 (first_of (codes "at-least") rows))) (number_or 1 (first_of (codes "workers") rows))) (conflicts_named (first_of (codes "conflicts") rows))
 
 -- the check that arguments ask for, of the files that they name
@@ -180,13 +197,14 @@ explain_of rows =
 -- the witness that arguments ask for; nothing if the name of the reading is unknown
 abbrev pub witness_of : List Row → Option Asked
 witness_of rows =
-    option_map (λ conflicts. ToWitness (first_of (codes "history") rows) conflicts (ruling_given (first_of (codes "rule-out") rows))) (conflicts_named (first_of (codes "conflicts") rows))
+    option_map (λ conflicts. (if flag_given (first_of (codes "json") rows) then ToWitnessInJson else ToWitness) (first_of (codes "history") rows) conflicts (ruling_given (first_of (codes "rule-out") rows)))
+    (conflicts_named (first_of (codes "conflicts") rows))
 
 -- the check of a witness that arguments ask for, if both files are named; nothing if the name of the reading
 -- is unknown
 abbrev pub verify_of : List Row → Option Asked
 verify_of rows =
-    option_and_then (λ history. option_and_then (λ witness. option_map (λ conflicts. ToVerify history witness conflicts) (conflicts_named (first_of (codes "conflicts") rows)))
+    option_and_then (λ history. option_and_then (λ witness. option_map (λ conflicts. (if flag_given (first_of (codes "json") rows) then ToVerifyInJson else ToVerify) history witness conflicts) (conflicts_named (first_of (codes "conflicts") rows)))
     (first_of (codes "witness") rows)) (first_of (codes "history") rows)
 
 -- the lines of a bulk that arguments ask for, if both files are named; the calls are numbered from 0 if no
@@ -330,6 +348,11 @@ at_least_rule = record (option_rule (codes "at-least")) { parser = Some (parser.
 abbrev pub rule_out_argument : Rule
 rule_out_argument = record (new_rule (codes "rule-out")) { long = Some (codes "rule-out"); action = Some SetTrue }
 
+-- `--json`, without a value
+-- Source: profile.
+abbrev pub json_rule : Rule
+json_rule = record (new_rule (codes "json")) { long = Some (codes "json"); action = Some SetTrue }
+
 -- a required number below 2^32, of this name
 -- Source: profile.
 abbrev pub small_rule : Text → Rule
@@ -356,10 +379,11 @@ in_turns_rule = record (new_rule (codes "in-turns")) { long = Some (codes "in-tu
 abbrev pub searched_command : App → Rule → App
 searched_command command texts = with_rule (with_rule (with_rule (with_rule command texts) (option_rule (codes "conflicts"))) workers_rule) rule_out_argument
 
--- the command `check`, which takes histories, which may be left out, what each check takes, and `--at-least`
+-- the command `check`, which takes histories, which may be left out, what each check takes, `--at-least` and
+-- `--json`
 -- Source: profile.
 abbrev pub check_command : App
-check_command = with_rule (searched_command (new_app (codes "check")) (files_rule (codes "history"))) at_least_rule
+check_command = with_rule (with_rule (searched_command (new_app (codes "check")) (files_rule (codes "history"))) at_least_rule) json_rule
 
 -- the command `explain`, which takes a history, which may be left out, what each check takes, `--html`,
 -- `--document` and `--lines`
@@ -368,16 +392,17 @@ abbrev pub explain_command : App
 explain_command =
     with_rule (with_rule (with_rule (searched_command (new_app (codes "explain")) (file_rule (codes "history"))) (option_rule (codes "html"))) (option_rule (codes "document"))) (option_rule (codes "lines"))
 
--- the command `witness`, which takes a history, which may be left out, `--conflicts` and `--rule-out`
+-- the command `witness`, which takes a history, which may be left out, `--conflicts`, `--rule-out` and `--json`
 -- Source: profile.
 abbrev pub witness_command : App
-witness_command = with_rule (with_rule (with_rule (new_app (codes "witness")) (file_rule (codes "history"))) (option_rule (codes "conflicts"))) rule_out_argument
+witness_command =
+    with_rule (with_rule (with_rule (with_rule (new_app (codes "witness")) (file_rule (codes "history"))) (option_rule (codes "conflicts"))) rule_out_argument) json_rule
 
--- the command `verify`, which takes a history and a witness, both required, and `--conflicts`
+-- the command `verify`, which takes a history and a witness, both required, `--conflicts` and `--json`
 -- Source: profile.
 abbrev pub verify_command : App
 verify_command =
-    with_rule (with_rule (with_rule (new_app (codes "verify")) (needed_rule (codes "history"))) (needed_rule (codes "witness"))) (option_rule (codes "conflicts"))
+    with_rule (with_rule (with_rule (with_rule (new_app (codes "verify")) (needed_rule (codes "history"))) (needed_rule (codes "witness"))) (option_rule (codes "conflicts"))) json_rule
 
 -- the command `bulk`, which takes a body and a reply, both required, and `--first`
 -- Source: profile.

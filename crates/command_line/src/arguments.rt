@@ -1,6 +1,6 @@
 ghost use Rattle.std.specs.Prelude.{◌≡◌, false, codes};
 ghost use Rattle.clap.specs.Words.{rule_of};
-ghost use Rattle.command_line.specs.Asked.{at_least_rule, fault_rule, file_rule, files_rule, first_rule, in_turns_rule, needed_rule, option_rule, rule_out_argument, seed_rule, small_rule, workers_rule};
+ghost use Rattle.command_line.specs.Asked.{at_least_rule, fault_rule, file_rule, files_rule, first_rule, in_turns_rule, json_rule, needed_rule, option_rule, rule_out_argument, seed_rule, small_rule, workers_rule};
 
 use clap::builder::ValueParser;
 use clap::{Arg, ArgAction};
@@ -29,6 +29,9 @@ pub const RULE_OUT: &str = "rule-out";
 
 /// The least number of calls.
 pub const AT_LEAST: &str = "at-least";
+
+/// Whether answers are written as objects of JSON.
+pub const JSON: &str = "json";
 
 /// The file of a page.
 pub const HTML: &str = "html";
@@ -161,6 +164,17 @@ pub fn rule_out<'a>(alloc: Global) -> Arg<'a>
         .help(
             "If no order is found, look for a document that no order explains, whatever became of lost calls",
         )
+}
+
+/// Returns the option that has answers written as objects of JSON.
+pub fn json<'a>(alloc: Global) -> Arg<'a>
+    ensures rule { rule_of result ≡ json_rule }
+    ensures local { result.global ≡ false }
+{
+    Arg::new(alloc, JSON)
+        .long(JSON)
+        .action(ArgAction::SetTrue)
+        .help("Write an object of JSON in place of each line")
 }
 
 /// Returns the option of the seed of a run, which is left out if several seeds are tried.

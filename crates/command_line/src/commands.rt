@@ -6,8 +6,8 @@ ghost use Rattle.command_line.specs.Asked.{bulk_command, check_command, command_
 use crate::arguments;
 use crate::arguments::{
     BODY, CALLS, CLIENTS, COPIES, DISTURB, DOCS, DOCUMENT, HISTORY, HTML, LINES, REPLY, SEEDS,
-    UNTIL, at_least, conflicts, fault, first, histories, history, in_turns, needed_file, option,
-    rule_out, seed, small, workers,
+    UNTIL, at_least, conflicts, fault, first, histories, history, in_turns, json, needed_file,
+    option, rule_out, seed, small, workers,
 };
 use clap::{Arg, Command};
 use std::alloc::{AllocError, Global};
@@ -65,7 +65,8 @@ fn check_command<'a>(alloc: Global) -> Result<Command<'a>, AllocError>
             "Examples:\n  casbench check history.ndjson\n  casbench check monday.ndjson tuesday.ndjson --at-least 1000",
         );
     let command = searched_command(alloc, command, histories(alloc))?;
-    with_argument(command, at_least(alloc))
+    let command = with_argument(command, at_least(alloc))?;
+    with_argument(command, json(alloc))
 }
 
 fn witness_command<'a>(alloc: Global) -> Result<Command<'a>, AllocError>
@@ -77,7 +78,8 @@ fn witness_command<'a>(alloc: Global) -> Result<Command<'a>, AllocError>
         .after_help("Example:\n  casbench witness history.ndjson > history.witness");
     let command = with_argument(command, history(alloc))?;
     let command = with_argument(command, conflicts(alloc))?;
-    with_argument(command, rule_out(alloc))
+    let command = with_argument(command, rule_out(alloc))?;
+    with_argument(command, json(alloc))
 }
 
 fn verify_command<'a>(alloc: Global) -> Result<Command<'a>, AllocError>
@@ -91,7 +93,8 @@ fn verify_command<'a>(alloc: Global) -> Result<Command<'a>, AllocError>
         .after_help("Example:\n  casbench verify history.ndjson history.witness");
     let command = with_argument(command, history)?;
     let command = with_argument(command, witness)?;
-    with_argument(command, conflicts(alloc))
+    let command = with_argument(command, conflicts(alloc))?;
+    with_argument(command, json(alloc))
 }
 
 fn bulk_command<'a>(alloc: Global) -> Result<Command<'a>, AllocError>

@@ -1,9 +1,9 @@
 ghost use Rattle.std.specs.Prelude.{◌≡◌, ◌⊎◌, [], Some, None, IfOk, IfErr, OnOk, map, option_map};
 ghost use Rattle.clap.specs.Words.{FailsBy, HasKind, found_of, rows_of, subcommand_rows_of};
-ghost use Rattle.command_line.specs.Asked.{asked_by, asked_of, request_of_command, asked_on, bulk_of, check_of, checked_of, explain_of, faults_on, number_or as number_parsed, conflicts_named, ruling_given, verify_of, witness_of};
+ghost use Rattle.command_line.specs.Asked.{asked_by, asked_of, request_of_command, asked_on, bulk_of, check_of, checked_of, explain_of, faults_on, number_or as number_parsed, conflicts_named, flag_given, ruling_given, verify_of, witness_of};
 
 use crate::arguments;
-use crate::arguments::{AT_LEAST, BODY, CONFLICTS, FIRST, HISTORY, REPLY, RULE_OUT, WORKERS};
+use crate::arguments::{AT_LEAST, BODY, CONFLICTS, FIRST, HISTORY, JSON, REPLY, RULE_OUT, WORKERS};
 use crate::commands::{BULK, CHECK, EXPLAIN, RUN, VERIFY, WITNESS, program};
 use crate::given::{text_given, texts_given};
 use crate::page_request::{PageRequest, page_fault, page_given};
@@ -46,6 +46,27 @@ pub enum Request<'a> {
     },
     /// To check the witness text of the one file against the history text of the other.
     Verify {
+        history: &'a str,
+        witness: &'a str,
+        conflicts: Conflicts,
+    },
+    /// To check each history text in the same way, and to answer in objects of JSON: those of the files, or of
+    /// standard input if none is named.
+    CheckInJson {
+        files: Vec<&'a str>,
+        conflicts: Conflicts,
+        workers: u64,
+        ruling_out: RulingOut,
+        at_least: u64,
+    },
+    /// To write the witness of a history text in the same way; or why there is none, as an object of JSON.
+    WitnessInJson {
+        file: Option<&'a str>,
+        conflicts: Conflicts,
+        ruling_out: RulingOut,
+    },
+    /// To check a witness text in the same way, and to answer in an object of JSON.
+    VerifyInJson {
         history: &'a str,
         witness: &'a str,
         conflicts: Conflicts,
@@ -96,6 +117,16 @@ fn conflicts_named(name: Option<&str>) -> Option<Conflicts>
 /// The text of an option without a value, if the option is given.
 pub const GIVEN: &str = "true";
 
+// Whether the option has the text that says it is given.
+fn is_given(text: Option<&str>) -> bool
+    ensures { result ≡ flag_given (option_map (λ t. t.now) text.entry) }
+{
+    match text {
+        Some(GIVEN) => true,
+        _ => false,
+    }
+}
+
 // Returns whether documents are checked for being ruled out: if the option has the text.
 fn ruling_given(text: Option<&str>) -> RulingOut
     ensures { result ≡ ruling_given (option_map (λ t. t.now) text.entry) }
@@ -128,6 +159,15 @@ fn check_request<'a>(files: Vec<&'a str>, given: &ArgMatches<'a>) -> Option<Requ
     let workers = number_or(1, text_given(given, WORKERS))?;
     let ruling_out = ruling_given(text_given(given, RULE_OUT));
     let at_least = number_or(0, text_given(given, AT_LEAST))?;
+    if is_given(text_given(given, JSON)) {
+        return Some(Request::CheckInJson {
+            files,
+            conflicts,
+            workers,
+            ruling_out,
+            at_least,
+        });
+    }
     if files.len() > 1 {
         return Some(Request::CheckEach {
             files,
@@ -150,22 +190,44 @@ fn check_request<'a>(files: Vec<&'a str>, given: &ArgMatches<'a>) -> Option<Requ
 fn witness_request<'a>(given: &ArgMatches<'a>) -> Option<Request<'a>>
     ensures { option_map asked_by result ≡ witness_of (rows_of (found_of given.now)) }
 {
-    Some(Request::Witness {
-        file: text_given(given, HISTORY),
-        conflicts: conflicts_named(text_given(given, CONFLICTS))?,
-        ruling_out: ruling_given(text_given(given, RULE_OUT)),
-    })
+    let file = text_given(given, HISTORY);
+    let conflicts = conflicts_named(text_given(given, CONFLICTS))?;
+    let ruling_out = ruling_given(text_given(given, RULE_OUT));
+    if is_given(text_given(given, JSON)) {
+        Some(Request::WitnessInJson {
+            file,
+            conflicts,
+            ruling_out,
+        })
+    } else {
+        Some(Request::Witness {
+            file,
+            conflicts,
+            ruling_out,
+        })
+    }
 }
 
 // Returns a check of a witness, if both files are named, and a reading is named or none is.
 fn verify_request<'a>(given: &ArgMatches<'a>) -> Option<Request<'a>>
     ensures { option_map asked_by result ≡ verify_of (rows_of (found_of given.now)) }
 {
-    Some(Request::Verify {
-        history: text_given(given, HISTORY)?,
-        witness: text_given(given, arguments::WITNESS)?,
-        conflicts: conflicts_named(text_given(given, CONFLICTS))?,
-    })
+    let history = text_given(given, HISTORY)?;
+    let witness = text_given(given, arguments::WITNESS)?;
+    let conflicts = conflicts_named(text_given(given, CONFLICTS))?;
+    if is_given(text_given(given, JSON)) {
+        Some(Request::VerifyInJson {
+            history,
+            witness,
+            conflicts,
+        })
+    } else {
+        Some(Request::Verify {
+            history,
+            witness,
+            conflicts,
+        })
+    }
 }
 
 // Returns the lines of a bulk, if both files are named.

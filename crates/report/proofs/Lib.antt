@@ -1,2 +1,3 @@
 mod WitnessLimits
 mod AnswerLemmas
+mod DetailLemmas

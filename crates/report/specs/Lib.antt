@@ -1,7 +1,9 @@
 pub mod Bulk
 pub mod Verdict
 pub mod Workers
+pub mod Witnessed
 pub mod Explained
 pub mod Findings
 pub mod Calls
+pub mod Details
 pub mod aids

@@ -95,8 +95,8 @@ pub fn refusal(alloc: Global, fault: TextFault) -> Result<Answer, NoMemory>
     Ok(Answer::of(Status::Refused, line))
 }
 
-// Returns the verdict on a history, with these options.
-fn verdict_by<R: Threads + Wait + Sync>(
+/// Returns the verdict on a history, with these options.
+pub fn verdict_by<R: Threads + Wait + Sync>(
     rt: &R,
     alloc: Global,
     history: History,

@@ -11,8 +11,9 @@ ghost use Rattle.stream_io.specs.Written.{HasAnswer, HasPrefix};
 use crate::bulk_answer::bulk_answer;
 use crate::check_options::CheckOptions;
 use crate::checked::check_text;
+use crate::details::status_of;
 use crate::explain::explained_text;
-use crate::verify_input::verify_input;
+use crate::verify_input::verify_reported;
 use crate::witness_answer::witness_answer;
 use compose::RulingOut;
 use doc_register::Conflicts;
@@ -21,7 +22,7 @@ use std::alloc::Global;
 use std::io::{Read, Write};
 use std::sync::Wait;
 use std::thread::Threads;
-use stream_io::{Status, StreamFault, read_all, write_answer};
+use stream_io::{Answer, Status, StreamFault, read_all, write_answer};
 
 /// Reads a history text to its end, and writes one line:
 ///
@@ -225,8 +226,9 @@ pub fn verify_stream<R: Read, Q: Read, W: Write>(
     // Nothing of the witness is taken if the history text is refused.
     ensures unread { LeavesUnread (R.remaining history.old) (Q.remaining witness.old) (Q.remaining witness.new) }
 {
-    let answer = verify_input(alloc, keys, history, witness, conflicts)?;
-    write_answer(writer, &answer)
+    let reported = verify_reported(alloc, keys, history, witness, conflicts)?;
+    let line = reported.line(alloc)?;
+    write_answer(writer, &Answer::of(status_of(&reported), line))
 }
 
 /// Reads the body of a bulk request and then its reply, each to its end, and writes their lines in a history:

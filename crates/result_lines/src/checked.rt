@@ -1,7 +1,7 @@
 ghost use Rattle.std.specs.Prelude.{◌≡◌, IfOk, string_bytes};
 ghost use Rattle.result_lines.specs.Lines.{before_name as shown_name, no_line as reported_no, refused_line as reported_refused, yes_line as reported_yes};
 
-use crate::cause_name::cause_name;
+use crate::causes::cause_name;
 use api_lines::TextFault;
 use compose::{Counts, Offence};
 use std::alloc::Global;

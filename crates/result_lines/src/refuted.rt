@@ -6,8 +6,8 @@ use compose::{Offence, Refuted};
 use std::alloc::Global;
 use version_pair::NoMemory;
 
-// Returns the printed name of a kind of evidence.
-fn kind_name(evidence: Refuted) -> &'static str
+/// Returns the printed name of a kind of evidence.
+pub fn kind_name(evidence: Refuted) -> &'static str
     ensures { result.now ≡ reported_kind evidence }
 {
     match evidence {

@@ -1,7 +1,7 @@
 ghost use Rattle.std.specs.Prelude.{◌≡◌, IfOk, codes, string_bytes};
 ghost use Rattle.result_lines.specs.Lines.{refused_file_line, verified_line as reported_line};
 
-use crate::cause_name::cause_name;
+use crate::causes::cause_name;
 use api_lines::TextFault;
 use compose::Counts;
 use std::alloc::Global;

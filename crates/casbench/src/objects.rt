@@ -1,0 +1,168 @@
+//! Answers that are written as objects of JSON.
+
+ghost use Rattle.std.specs.Prelude.{◌≢◌, IfErr, IfOk, IsErrOf, ℕ, List};
+ghost use Rattle.std.specs.Io.KnownBytes.{Keeps};
+ghost use Rattle.doc_register.specs.declared.state.Conflicts.{Conflicts as Reading};
+ghost use Rattle.evidence.specs.declared.ruling_out.RulingOut.{RulingOut as Ruling};
+ghost use Rattle.casbench.specs.Objects.{IsWitnessInJson, VerifiesInJson, WitnessesInJson};
+ghost use Rattle.report.specs.Verdict.{LeavesUnread};
+ghost use Rattle.report.specs.Witnessed.{IsWitnessedBy};
+ghost use Rattle.result_lines.specs.Objects.{IsObjectOf, line_of};
+ghost use Rattle.stream_io.specs.Faults.{IsStreamFault};
+ghost use Rattle.stream_io.specs.Written.{HasAnswer, HasPrefix};
+
+use crate::stopwatch::Stopwatch;
+use doc_register::Conflicts;
+use events::HashKeys;
+use report::{
+    Answer, Details, RulingOut, Status, StreamFault, Witnessed, status_of, verify_reported,
+    witness_details, write_answer,
+};
+use result_lines::{Facts, Reported, object_line};
+use std::alloc::{AllocError, Global};
+use std::io::{Read, Write};
+use std::time::Clock;
+
+/// Returns the object of what was found in the text of this name.
+pub fn details_object(
+    alloc: Global,
+    name: &str,
+    details: Details,
+    milliseconds: Option<u64>,
+) -> Result<Vec<u8>, AllocError>
+    ensures { IfOk result (λ text. IsObjectOf name.now (line_of details.reported) text.items) }
+{
+    let facts = Facts {
+        file: name,
+        witness: None,
+        proved: details.proved,
+        broken_reply: details.broken_reply,
+        milliseconds,
+    };
+    object_line(alloc, &details.reported, &facts)
+}
+
+// Returns the text that is written of a witness, or the object of what was found in its place.
+fn witnessed_answer(
+    alloc: Global,
+    name: &str,
+    found: Witnessed,
+    milliseconds: Option<u64>,
+) -> Result<Answer, AllocError>
+    ensures { IfOk result (λ answer. (ruling : Ruling) (conflicts : Reading) (input : List ℕ)
+        → IsWitnessedBy ruling conflicts input found
+        → IsWitnessInJson name.now ruling conflicts input answer.status answer.text.items) }
+{
+    match found {
+        Witnessed::Text(text) => Ok(Answer {
+            status: Status::Yes,
+            text,
+        }),
+        Witnessed::Answered(details) => {
+            let status = status_of(&details.reported);
+            let text = details_object(alloc, name, details, milliseconds)?;
+            Ok(Answer { status, text })
+        }
+    }
+}
+
+/// Writes the witness of a history as `report::witness_stream` does; or, in place of a line, an object of JSON.
+/// It has the same errors.
+pub fn witness_in_json<C: Clock, R: Read, W: Write>(
+    clock: &C,
+    alloc: Global,
+    keys: HashKeys,
+    name: &str,
+    history: &mut R,
+    writer: &mut W,
+    conflicts: Conflicts,
+    ruling_out: RulingOut,
+) -> Result<Status, StreamFault>
+    // The writer holds the text or the object after what it held, for the bytes of the reader.
+    ensures answered { IfOk result (λ status. HasAnswer (WitnessesInJson name.now ruling_out conflicts (R.remaining history.old) status)
+        (W.contents writer.old) (W.contents writer.new)) }
+    // After `Write` the writer holds a prefix of such a text after what it held.
+    ensures cut_off { IsErrOf result StreamFault.Write
+        → HasPrefix (WitnessesInJson name.now ruling_out conflicts (R.remaining history.old)) (W.contents writer.old)
+        (W.contents writer.new) }
+    // After any other error the writer holds what it held.
+    ensures kept { IfErr result (λ fault. fault ≢ StreamFault.Write
+        → Keeps (W.contents writer.old) (W.contents writer.new)) }
+    // The only errors are `Read`, `Write` and `NoMemory`.
+    ensures reported { IfErr result IsStreamFault }
+{
+    let stopwatch = Stopwatch::start(clock);
+    let found = witness_details(alloc, keys, history, conflicts, ruling_out)?;
+    let answer = witnessed_answer(alloc, name, found, stopwatch.milliseconds(clock))?;
+    write_answer(writer, &answer)
+}
+
+// Returns whether it is proved that an order explains the history, if that is answered.
+fn proved_of(reported: &Reported) -> Option<bool> {
+    match reported {
+        Reported::Verified(_) => Some(true),
+        _ => None,
+    }
+}
+
+// Returns the object of what was found of the two texts of these names.
+fn verified_object(
+    alloc: Global,
+    name: &str,
+    witness: &str,
+    reported: &Reported,
+    milliseconds: Option<u64>,
+) -> Result<Vec<u8>, AllocError>
+    ensures { IfOk result (λ text. IsObjectOf name.now (line_of reported.now) text.items) }
+{
+    let facts = Facts {
+        file: name,
+        witness: Some(witness),
+        proved: proved_of(reported),
+        broken_reply: None,
+        milliseconds,
+    };
+    object_line(alloc, reported, &facts)
+}
+
+/// Checks a witness against a history as `report::verify_stream` does, and writes an object of JSON in place of
+/// its line. The texts have these names. It has the same errors.
+pub fn verify_in_json<C: Clock, R: Read, Q: Read, W: Write>(
+    clock: &C,
+    alloc: Global,
+    keys: HashKeys,
+    name: &str,
+    witness_name: &str,
+    history: &mut R,
+    witness: &mut Q,
+    writer: &mut W,
+    conflicts: Conflicts,
+) -> Result<Status, StreamFault>
+    // The writer holds the object after what it held, for the bytes of the two readers.
+    ensures answered { IfOk result (λ status. HasAnswer (VerifiesInJson name.now conflicts (R.remaining history.old)
+        (Q.remaining witness.old) status)
+        (W.contents writer.old) (W.contents writer.new)) }
+    // After `Write` the writer holds a prefix of such an object after what it held.
+    ensures cut_off { IsErrOf result StreamFault.Write
+        → HasPrefix (VerifiesInJson name.now conflicts (R.remaining history.old) (Q.remaining witness.old))
+        (W.contents writer.old) (W.contents writer.new) }
+    // After any other error the writer holds what it held.
+    ensures kept { IfErr result (λ fault. fault ≢ StreamFault.Write
+        → Keeps (W.contents writer.old) (W.contents writer.new)) }
+    // The only errors are `Read`, `Write` and `NoMemory`.
+    ensures reported { IfErr result IsStreamFault }
+    // Nothing of the witness is taken if the history text is refused.
+    ensures unread { LeavesUnread (R.remaining history.old) (Q.remaining witness.old) (Q.remaining witness.new) }
+{
+    let stopwatch = Stopwatch::start(clock);
+    let reported = verify_reported(alloc, keys, history, witness, conflicts)?;
+    let status = status_of(&reported);
+    let text = verified_object(
+        alloc,
+        name,
+        witness_name,
+        &reported,
+        stopwatch.milliseconds(clock),
+    )?;
+    write_answer(writer, &Answer { status, text })
+}

@@ -1,0 +1,51 @@
+-- What is reported piece by piece is what a line says.
+use Rattle.std.proofs.Common.{ℕ, ◌≡◌, ◌∙◌, Bool, List, None, Option, Some, ap, subst, sym, true}
+use Rattle.std.specs.Prelude.{IsTrue}
+use Rattle.doc_register.specs.declared.state.Conflicts.{Conflicts}
+use Rattle.events.specs.declared.event.Event.{Event}
+use Rattle.events.specs.Order.{IsLinearizable}
+use Rattle.evidence.specs.declared.refuted.Refuted.{Refuted as Evidence}
+use Rattle.evidence.specs.declared.ruling_out.RulingOut.{RulingOut}
+use Rattle.history.specs.Text.{IsHistoryText}
+use Rattle.compose.specs.declared.offence.Offence.{Offence}
+use Rattle.result_lines.specs.Objects.{line_of}
+use Rattle.result_lines.specs.declared.reported.Reported.{Reported}
+use Rattle.stream_io.specs.declared.status.Status.{Status}
+use Rattle.stream_io.specs.declared.status.Status.TheVariants.{Yes, No, Refuted}
+use Rattle.report.specs.Calls.{CountsCalls}
+use Rattle.report.specs.Details.{IsProvedOf, IsReportOf, calls_reported, status_of}
+use Rattle.report.specs.Findings.{SaysFailing}
+use Rattle.report.specs.Verdict.{IsAnswer, IsWitnessAnswer}
+
+-- what is reported of a history without an order is what its line says
+says_reported : (ruling : RulingOut) (conflicts : Conflicts) (H : List Event) (status : Status) (line : List ℕ) (o : Offence) (found : Option Evidence) (said : Reported)
+    → SaysFailing ruling conflicts H status line o found → IsReportOf o found said → (status ≡ status_of said) × (line ≡ line_of said)
+says_reported ruling conflicts H status line o None said says is = (says.0 ∙ sym (ap status_of is), says.1 ∙ sym (ap line_of is))
+says_reported ruling conflicts H status line o (Some evidence) said says is = (says.0 ∙ sym (ap status_of is), says.1 ∙ sym (ap line_of is))
+
+-- so it answers the input as the line does
+pub answers_reported : (ruling : RulingOut) (conflicts : Conflicts) (H : List Event) (input : List ℕ) (status : Status) (line : List ℕ) (o : Offence) (found : Option Evidence) (said : Reported)
+    → SaysFailing ruling conflicts H status line o found → IsReportOf o found said
+    → IsAnswer ruling conflicts input status line × IsWitnessAnswer ruling conflicts input status line
+    → IsAnswer ruling conflicts input (status_of said) (line_of said) × IsWitnessAnswer ruling conflicts input (status_of said) (line_of said)
+answers_reported ruling conflicts H input status line o found said says is answers =
+    let same = says_reported ruling conflicts H status line o found said says is in
+    subst (λ s. IsAnswer ruling conflicts input s (line_of said) × IsWitnessAnswer ruling conflicts input s (line_of said)) same.0
+    (subst (λ l. IsAnswer ruling conflicts input status l × IsWitnessAnswer ruling conflicts input status l) same.1 answers)
+
+-- no calls are counted of it
+pub uncounted : (input : List ℕ) (o : Offence) (found : Option Evidence) (said : Reported) → IsReportOf o found said → CountsCalls input (status_of said) (calls_reported said)
+uncounted input o None said is = subst (λ s. CountsCalls input (status_of s) (calls_reported s)) (sym is) (λ (same : No ≡ Yes). cc)
+uncounted input o (Some evidence) said is = subst (λ s. CountsCalls input (status_of s) (calls_reported s)) (sym is) (λ (same : Refuted ≡ Yes). cc)
+
+-- what is said to be proved of it is
+pub proved_reported : (conflicts : Conflicts) (H : List Event) (input : List ℕ) (o : Offence) (found : Option Evidence) (said : Reported) (proved : Bool) → IsReportOf o found said
+    → IsHistoryText input H → (IsTrue proved → ¬ IsLinearizable conflicts H) → IsProvedOf conflicts input said (Some proved)
+proved_reported conflicts H input o None said proved is text none =
+    subst (λ s. IsProvedOf conflicts input s (Some proved)) (sym is) (λ (same : Some proved ≡ Some true).
+    let yes : proved ≡ true = cc in
+    (H, text, none yes))
+proved_reported conflicts H input o (Some evidence) said proved is text none =
+    subst (λ s. IsProvedOf conflicts input s (Some proved)) (sym is) (λ (same : Some proved ≡ Some true).
+    let yes : proved ≡ true = cc in
+    (H, text, none yes))

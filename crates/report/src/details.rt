@@ -1,0 +1,223 @@
+//! What a check finds in a text, piece by piece: what its line reports, and what is known beside.
+
+ghost use Rattle.std.specs.Prelude.{◌≡◌, ◌≢◌, IfErr, IfOk, IfSome, IsTrue, ℕ, List};
+ghost use Rattle.evidence.specs.Evidence.{Holds};
+ghost use Rattle.events.specs.Order.{IsLinearizable};
+ghost use Rattle.history.specs.Text.{IsHistoryText};
+ghost use Rattle.result_lines.specs.Objects.{line_of};
+ghost use Rattle.stream_io.specs.Faults.{IsCheckFault, IsReadingFault};
+ghost use Rattle.stream_io.specs.Taken.{TakesHistory};
+ghost use Rattle.report.specs.Calls.{CountsCalls};
+ghost use Rattle.report.specs.Details.{IsOfCall, IsProvedOf, IsReportOf, calls_reported, status_of};
+ghost use Rattle.report.specs.Verdict.{AnswersInput, IsAnswer, IsWitnessAnswer};
+ghost use Rattle.report.specs.Workers.{AreWorkers, HasDocument, NamesOwnDocument};
+
+use crate::check_answer::{case_answer, verdict_by};
+use crate::check_options::CheckOptions;
+use crate::numbered_input::read_numbered;
+use compose::{Case, Certainty, Counts, Failing, Offence, RulingOut, Verdict, certainty_of};
+use doc_check::is_complete;
+use doc_register::Conflicts;
+use events::{Event, HashKeys, History};
+use result_lines::{BrokenReply, Reported};
+use std::alloc::Global;
+use std::io::Read;
+use std::sync::Wait;
+use std::thread::Threads;
+use story::EventLines;
+use stream_io::{Status, StreamFault};
+use version_pair::NoMemory;
+
+/// What an answer reports, and what is known beside.
+#[derive(Drop)]
+pub struct Details {
+    /// What its line reports.
+    pub reported: Reported,
+    /// Whether it is proved that an order explains the history, or that none does, if one of these is answered.
+    pub proved: Option<bool>,
+    /// Where the reply is at which the search for an order first fails, if it fails.
+    pub broken_reply: Option<BrokenReply>,
+}
+
+/// Returns the status of an answer that reports this.
+pub fn status_of(reported: &Reported) -> Status
+    // It is that of the definition.
+    ensures { result ≡ status_of reported.now }
+{
+    match reported {
+        Reported::Yes(_) | Reported::Verified(_) => Status::Yes,
+        Reported::No(_) | Reported::Broken(_) => Status::No,
+        Reported::Refuted(..) => Status::Refuted,
+        Reported::Refused(_) | Reported::RefusedHistory(_) | Reported::RefusedWitness(_) => {
+            Status::Refused
+        }
+    }
+}
+
+/// Returns the number of calls, if a check reports yes.
+pub fn calls_reported(reported: &Reported) -> Option<usize>
+    // It is that of the definition.
+    ensures { result ≡ calls_reported reported.now }
+{
+    match reported {
+        Reported::Yes(counts) => Some(counts.calls),
+        _ => None,
+    }
+}
+
+// Whether each write of the history has a reply that says whether it was performed.
+fn is_settled(history: &History, conflicts: Conflicts) -> Result<bool, NoMemory> {
+    for doc in 0..history.docs() {
+        if !is_complete(&history.records(doc)?, conflicts) {
+            return Ok(false);
+        }
+    }
+    Ok(true)
+}
+
+// Whether it is proved that no order explains the history of the case: by evidence, or since it is settled,
+// of which no certainty is `Undecided`.
+fn is_proved(alloc: Global, case: &Case, failing: &Failing) -> Result<bool, NoMemory>
+    requires { IfSome failing.now.evidence (Holds case.now.conflicts case.now.events) }
+    ensures { IfOk result (λ proved. IsTrue proved → ¬ IsLinearizable case.now.conflicts case.now.events) }
+{
+    if failing.evidence.is_none() && !is_settled(case.history(), case.conflicts())? {
+        return Ok(false);
+    }
+    Ok(certainty_of(alloc, case, failing)? != Certainty::Undecided)
+}
+
+// Returns where the reply of the offence is.
+fn broken_reply_of(
+    alloc: Global,
+    history: &History,
+    offence: Offence,
+    lines: &EventLines,
+) -> Result<Option<BrokenReply>, NoMemory>
+    ensures { IfOk result (λ found. IfSome found (IsOfCall history.now offence.call)) }
+{
+    let Some(place) = history.call(offence.call) else {
+        return Ok(None);
+    };
+    let Event::Call { id, shard, .. } = history.event(place) else {
+        return Ok(None);
+    };
+    let reply = lines.line(offence.event);
+    let time = match reply.time {
+        Some(time) => Some(format!(in alloc; "{time:.3}")?),
+        None => None,
+    };
+    Ok(Some(BrokenReply {
+        document: id.copy()?,
+        shard: *shard,
+        call_line: lines.number(place),
+        reply_line: reply.number,
+        time,
+    }))
+}
+
+// Returns what the line of a history reports for which no order was found.
+fn failing_reported(failing: &Failing) -> Reported
+    ensures { IsReportOf failing.now.offence failing.now.evidence result }
+{
+    match failing.evidence {
+        Some(evidence) => Reported::Refuted(evidence, failing.offence),
+        None => Reported::No(failing.offence),
+    }
+}
+
+/// Returns the details of a history for which no order was found.
+pub fn case_details(
+    alloc: Global,
+    case: &Case,
+    ruling_out: RulingOut,
+    lines: &EventLines,
+) -> Result<Details, NoMemory>
+    ensures answers { IfOk result (λ found. (input : List ℕ) → IsHistoryText input case.now.events
+        → IsAnswer ruling_out case.now.conflicts input (status_of found.reported) (line_of found.reported)
+        × IsWitnessAnswer ruling_out case.now.conflicts input (status_of found.reported) (line_of found.reported)) }
+    ensures calls { IfOk result (λ found. (input : List ℕ) → CountsCalls input (status_of found.reported)
+        (calls_reported found.reported)) }
+    ensures no { IfOk result (λ found. status_of found.reported ≢ Status.Yes) }
+    ensures proved { IfOk result (λ found. (input : List ℕ) → IsHistoryText input case.now.events
+        → IsProvedOf case.now.conflicts input found.reported found.proved) }
+{
+    let (_answer, failing) = case_answer(alloc, case, ruling_out)?;
+    Ok(Details {
+        reported: failing_reported(&failing),
+        proved: Some(is_proved(alloc, case, &failing)?),
+        broken_reply: broken_reply_of(alloc, case.history(), failing.offence, lines)?,
+    })
+}
+
+// Returns the details of a history.
+fn history_details<T: Threads + Wait + Sync>(
+    rt: &T,
+    alloc: Global,
+    history: History,
+    lines: &EventLines,
+    options: CheckOptions,
+) -> Result<Details, StreamFault>
+    requires workers { AreWorkers options.workers }
+    ensures answer { IfOk result (λ found. (input : List ℕ) → IsHistoryText input history
+        → IsAnswer options.ruling_out options.conflicts input (status_of found.reported) (line_of found.reported)) }
+    ensures calls { IfOk result (λ found. (input : List ℕ) → IsHistoryText input history
+        → CountsCalls input (status_of found.reported) (calls_reported found.reported)) }
+    ensures proved { IfOk result (λ found. (input : List ℕ) → IsHistoryText input history
+        → IsProvedOf options.conflicts input found.reported found.proved) }
+    ensures reported { IfErr result IsCheckFault }
+    ensures alone { options.workers ≡ 1 → IfErr result (λ fault. fault ≡ StreamFault.NoMemory) }
+    ensures named { IfErr result (HasDocument history) }
+{
+    match verdict_by(rt, alloc, history, options)? {
+        Verdict::Yes(proof) => Ok(Details {
+            reported: Reported::Yes(Counts::of(&proof)),
+            proved: Some(true),
+            broken_reply: None,
+        }),
+        Verdict::No(case) => Ok(case_details(alloc, &case, options.ruling_out, lines)?),
+    }
+}
+
+/// Returns what a check finds in the text of a reader, piece by piece: what the line of `check_stream` reports
+/// of it, and what is known beside. It writes nothing.
+///
+/// Errors, whichever comes first: `Read`, `NoMemory`, `Worker`. It waits as `check_stream` does.
+pub fn check_details<T: Threads + Wait + Sync, R: Read>(
+    rt: &T,
+    alloc: Global,
+    keys: HashKeys,
+    reader: &mut R,
+    options: CheckOptions,
+) -> Result<Details, StreamFault>
+    // There are 1 to 16 workers.
+    requires workers { AreWorkers options.workers }
+    // The line that reports it answers the bytes of the reader, as that of `check_stream` does.
+    ensures answer { IfOk result (λ found. AnswersInput options.ruling_out options.conflicts (R.remaining reader.old)
+        (status_of found.reported) (line_of found.reported)) }
+    // The number of calls is that of the history whose text the bytes are, if the answer is yes.
+    ensures calls { IfOk result (λ found. IfSome (R.remaining reader.old)
+        (λ input. CountsCalls input (status_of found.reported) (calls_reported found.reported))) }
+    // If it is said to be proved that no order explains the history, none does.
+    ensures proved { IfOk result (λ found. IfSome (R.remaining reader.old)
+        (λ input. IsProvedOf options.conflicts input found.reported found.proved)) }
+    // The only errors are `Read`, `NoMemory` and `Worker`.
+    ensures reported { IfErr result IsCheckFault }
+    // With one worker, the caller's thread, the error is never `Worker`.
+    ensures alone { options.workers ≡ 1 → IfErr result IsReadingFault }
+    // A document that a `Worker` names is one of the history whose text the reader had.
+    ensures named { IfErr result (NamesOwnDocument (R.remaining reader.old)) }
+    // No bytes after the first refused line are taken but those that the last read returned, as by
+    // `check_stream`.
+    ensures taken { TakesHistory (R.remaining reader.old) (R.remaining reader.new) }
+{
+    match read_numbered(alloc, keys, reader) {
+        Ok(Ok((history, lines))) => history_details(rt, alloc, history, &lines, options),
+        Ok(Err(refused)) => Ok(Details {
+            reported: Reported::Refused(refused.fault),
+            proved: None,
+            broken_reply: None,
+        }),
+        Err(fault) => Err(StreamFault::from(fault)),
+    }
+}

@@ -1,0 +1,31 @@
+use version_pair::DocId;
+
+/// Where the reply is at which the search for an order first fails.
+#[derive(Debug, Drop)]
+pub struct BrokenReply {
+    /// The document of its call.
+    pub document: DocId,
+    /// The document's shard.
+    pub shard: u32,
+    /// The line of its call, from 1.
+    pub call_line: u64,
+    /// Its own line.
+    pub reply_line: u64,
+    /// When that line was written, in UTC, if it says so.
+    pub time: Option<String>,
+}
+
+/// What an object says beside what its line reports.
+#[derive(Debug, Drop)]
+pub struct Facts<'a> {
+    /// The file of the history, or `-`.
+    pub file: &'a str,
+    /// The file of the witness, if there is one.
+    pub witness: Option<&'a str>,
+    /// Whether it is proved that an order explains the history, or that none does, if one of these is answered.
+    pub proved: Option<bool>,
+    /// Where the search first fails, if it does.
+    pub broken_reply: Option<BrokenReply>,
+    /// How long the answer took, if that is known.
+    pub milliseconds: Option<u64>,
+}
