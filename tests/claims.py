@@ -342,17 +342,20 @@ class Proved:
         """Holds that the page is as the sources make it, and has each crate and each public call."""
         self.hold((TOP / self.page).read_text(encoding="utf-8") == proved.page(), "docs/make was not run")
         for name in self.sources.described:
-            self.hold(f"## {name}" in self.headings, f"the crate {name} has no section")
+            self.hold((f"## {name}" in self.headings) != (name in proved.LEFT_OUT), f"the crate {name} has no section")
+        for crate in (contracts.Crate(name) for name in proved.LEFT_OUT):
+            for name, call, _ in contracts.calls_of(crate):
+                self.hold(not call.clauses, f"{name} has a contract that the page leaves out")
         for crate in (contracts.Crate(name) for name in proved.ORDER):
             for name, call, source in contracts.calls_of(crate):
                 self.hold_call(name, call, source)
                 if name.startswith("laws::"):
                     self.hold_law(name, call)
-        for name, crate in self.sources.described.items():
+        for crate in (it for name, it in self.sources.described.items() if name not in proved.LEFT_OUT):
             for key in (key for key, it in crate.calls.items() if it.owner.partition(" as ")[2] not in OMITTED_TRAITS):
                 owner = key.rpartition("::")[0].replace(" as ", "` as `")
                 is_so = any(f"{it} `{key}`" in self.headings for it in ("###", "####")) or f"### `{owner}`" in self.headings
-                self.hold(is_so, f"the call {key} of {name} has no heading")
+                self.hold(is_so, f"the call {key} has no heading")
 
 
 # ---- ARCHITECTURE.md
