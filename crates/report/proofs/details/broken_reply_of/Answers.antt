@@ -1,4 +1,4 @@
-use Rattle.std.proofs.Common.{◌≡◌, ◌∙◌, List, Some, ap, subst, sym, ℕ}
+use Rattle.std.proofs.Common.{◌∙◌, List, Some, ap, subst, sym, ℕ}
 use Rattle.events.specs.Events.{IsCallAt}
 use Rattle.events.specs.declared.event.Event.{Event}
 use Rattle.evidence.proofs.CallsByNumber.{call_there}
