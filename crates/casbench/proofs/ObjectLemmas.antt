@@ -5,7 +5,7 @@ use Rattle.casbench.specs.Objects.{IsWitnessInJson, VerifiesInJson}
 use Rattle.doc_register.specs.declared.state.Conflicts.{Conflicts}
 use Rattle.evidence.specs.declared.ruling_out.RulingOut.{RulingOut}
 use Rattle.report.specs.Details.{status_of}
-use Rattle.report.specs.Verdict.{IsVerifyAnswer, IsWitnessAnswer, VerifiesInputs}
+use Rattle.report.specs.Verdict.{IsWitnessAnswer, VerifiesInputs}
 use Rattle.result_lines.specs.Objects.{IsObjectOf, line_of}
 use Rattle.result_lines.specs.declared.reported.Reported.{Reported}
 use Rattle.stream_io.specs.declared.status.Status.{Status}

@@ -1,5 +1,5 @@
 -- What is written in objects of JSON.
-use Rattle.std.specs.Prelude.{◌≡◌, ℕ, List, Option, IfSome}
+use Rattle.std.specs.Prelude.{ℕ, List, Option, IfSome}
 use Rattle.doc_register.specs.declared.state.Conflicts.{Conflicts}
 use Rattle.evidence.specs.declared.ruling_out.RulingOut.{RulingOut}
 use Rattle.report.specs.Verdict.{IsVerifyAnswer, IsWitnessAnswer}
