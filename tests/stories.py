@@ -47,6 +47,11 @@ def written(line, time):
     return line.replace('{"e":', f'{{"t":{time},"e":', 1)
 
 
+def written_at_end(line, time):
+    """The same behind all other members."""
+    return line.replace("}\n", f',"t":{time}}}\n')
+
+
 def at(time):
     """When a line was written, in words, to the millisecond."""
     return datetime.datetime.fromtimestamp(time / 1000, datetime.timezone.utc).strftime("%Y-%m-%dT%H:%M:%S.%f")[:-3] + "Z"
@@ -59,8 +64,8 @@ def clock(time):
 
 # A get of an old version. Some lines say when they were written; what others say is no time.
 TIMED = (
-    written(index(0, k=0), MADE) + created(0, 1, 0) + written(index(1), '"soon"') + written(updated(1, 1, 1), -1.5)
-    + written(get(2), MADE + 2_000) + written(found(2, 1, 0, k=0), MADE + 86_400_007)
+    written(index(0, k=0), MADE) + created(0, 1, 0).replace("}}\n", ',"t":5}}\n') + written(index(1), '"soon"') + written(updated(1, 1, 1), -1.5)
+    + written(get(2), MADE + 2_000) + written_at_end(found(2, 1, 0, k=0), MADE + 86_400_007)
 )
 
 # Name, text, how the story begins, what it has, and how often the page has what.

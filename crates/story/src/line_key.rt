@@ -69,7 +69,20 @@ impl LineKey {
         line.get(place.saturating_add(self.begin.len())..)
     }
 
-    // Returns the number of milliseconds that the member is, if it can be read without the line's value.
+    // Returns the number that the member is, if the line ends with it: then it surely is one of the line's own object.
+    fn last_number(&self, line: &[u8]) -> Option<i64> {
+        let Some((b'}', rest)) = line.split_last() else {
+            return None;
+        };
+        let count = rest.iter().rev().position(|byte| !byte.is_ascii_digit())?;
+        let (before, digits) = rest.split_at(rest.len().saturating_sub(count));
+        if !before.ends_with(self.begin) {
+            return None;
+        }
+        str::from_utf8(digits).ok()?.parse::<i64>().ok()
+    }
+
+    // Returns the number that the member is, if it can be read without the line's value.
     fn plain_number(&self, line: &[u8]) -> Option<i64> {
         let rest = self.own_member(line)?;
         let end = rest.iter().position(|byte| !byte.is_ascii_digit())?;
@@ -107,7 +120,8 @@ impl LineKey {
     /// Returns the time that the member is, in milliseconds since 1970; `None` if the line has none, or one that
     /// is no such number.
     pub fn moment(&self, alloc: Global, line: &[u8]) -> Result<Option<Timestamp>, NoMemory> {
-        let millisecond = match self.plain_number(line) {
+        let plain = self.last_number(line).or_else(|| self.plain_number(line));
+        let millisecond = match plain {
             Some(millisecond) => Some(millisecond),
             None => {
                 let value = value_of(alloc, line)?;
