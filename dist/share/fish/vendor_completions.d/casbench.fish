@@ -56,13 +56,16 @@ complete -c casbench -n '__casbench_lacks check value --conflicts' -l conflicts 
 complete -c casbench -n '__casbench_lacks check value --workers' -l workers -x -d 'How many workers search the documents, 1 to 16; 1 by default'
 complete -c casbench -n '__casbench_lacks check flag --rule-out' -l rule-out -d 'If no order is found, look for a document that no order explains, whatever became of lost calls'
 complete -c casbench -n '__casbench_lacks check value --at-least' -l at-least -x -d 'How many calls a history has to have: a yes with fewer gets status 6; 0 by default'
+complete -c casbench -n '__casbench_lacks check flag --json' -l json -d 'Write an object of JSON in place of each line'
 complete -c casbench -n '__casbench_lacks check flag -h --help' -s h -l help -d 'Print help'
 complete -c casbench -n '__casbench_wants check 999 --conflicts --workers --at-least' -F
 complete -c casbench -n '__casbench_lacks witness value --conflicts' -l conflicts -x -a 'plain maybe' -d 'How a conflict is read: plain (not performed) or maybe (possibly performed); plain by default'
 complete -c casbench -n '__casbench_lacks witness flag --rule-out' -l rule-out -d 'If no order is found, look for a document that no order explains, whatever became of lost calls'
+complete -c casbench -n '__casbench_lacks witness flag --json' -l json -d 'Write an object of JSON in place of each line'
 complete -c casbench -n '__casbench_lacks witness flag -h --help' -s h -l help -d 'Print help'
 complete -c casbench -n '__casbench_wants witness 1 --conflicts' -F
 complete -c casbench -n '__casbench_lacks verify value --conflicts' -l conflicts -x -a 'plain maybe' -d 'How a conflict is read: plain (not performed) or maybe (possibly performed); plain by default'
+complete -c casbench -n '__casbench_lacks verify flag --json' -l json -d 'Write an object of JSON in place of each line'
 complete -c casbench -n '__casbench_lacks verify flag -h --help' -s h -l help -d 'Print help'
 complete -c casbench -n '__casbench_wants verify 2 --conflicts' -F
 complete -c casbench -n '__casbench_lacks bulk value --first' -l first -x -d 'The number of the first call; 0 by default'
