@@ -253,6 +253,10 @@ REFUSED = [
     *wrong_numbers("check", "--at-least", "--at-least <CALLS>"),
     ("witness --at-least 1", UNKNOWN.format("--at-least")),
     ("explain --at-least 1", UNKNOWN.format("--at-least")),
+    ("explain --json story", UNKNOWN.format("--json")),
+    ("run --json", UNKNOWN.format("--json")),
+    ("check --json=1", A_VALUE.format("1", "--json")),
+    ("check --json --json", TWICE.format("--json")),
     ("verify h w --at-least 1", UNKNOWN.format("--at-least")),
     ("--at-least 1", UNKNOWN.format("--at-least")),
     # readings of conflicts
@@ -323,6 +327,7 @@ HELP += [(form.format(name), example) for form in FORMS for name, example in EXA
 HELP += [(form.format(name), "\n      --rule-out ") for form in FORMS for name in RULING_OUT]
 HELP += [("--help", "\nExit status:\n  0   yes"), ("--help", "\n  6   yes, with fewer calls")]
 HELP += [(form.format("check"), "\n      --at-least <CALLS>") for form in FORMS]
+HELP += [(form.format(name), "\n      --json ") for form in FORMS for name in ("check", "witness", "verify")]
 
 # What a page has at its top: the file of the history, and the options.
 FILE, OPTIONS = "<dt>file</dt><dd>{}</dd>", "<dt>options</dt><dd>--conflicts {} {}--workers {}{}</dd>"

@@ -11,13 +11,15 @@ import datetime
 import json
 import pathlib
 import re
+import subprocess
 import sys
 import tempfile
+import time
 
 from case_files import FILES, all_cases, case_text
 from program_test import ProgramTest, run_tests
 from running import run
-from texts import OFFENCE, conflict, created, get, index, lost, no_calls, status_of, too_few
+from texts import OFFENCE, conflict, created, get, index, lost, missing, no_calls, status_of, too_few
 
 # The commands that answer in objects if they are asked for, and the first words of the lines that are answers of one.
 COMMANDS = {"check", "verify", "witness"}
@@ -150,8 +152,9 @@ class Objects(ProgramTest):
         self.run_subtests(self.check_case, rows)
 
     def run_in(self, arguments, files, given=""):
-        """Runs the program in a folder that has these files."""
+        """Runs the program in a folder that has these files, and a folder `d`."""
         with tempfile.TemporaryDirectory() as folder:
+            (pathlib.Path(folder) / "d").mkdir()
             for name, text in files.items():
                 (pathlib.Path(folder) / name).write_text(text)
             return run(self.program, arguments, given, cwd=folder)
@@ -167,8 +170,8 @@ class Objects(ProgramTest):
     def test_several_files(self):
         """Each file has an object, in the order of the arguments, whose status is as without."""
         right, wrong = case_text("index-then-get"), case_text("hidden-conflict")
-        files = {"a": right, "b": wrong, "é \"": "", "d": "{"}
-        arguments = ["check", "a", "b", "é \"", "-", "d"]
+        files = {"a": right, "b": wrong, "é \"": "", "torn": "{"}
+        arguments = ["check", "a", "b", "é \"", "-", "torn"]
         plain = self.run_in(arguments, files, right)
         status, out, why = self.run_in([*arguments, "--json"], files, right)
         self.assertEqual((status, why), (plain[0], plain[2]))
@@ -192,6 +195,7 @@ class Objects(ProgramTest):
     def test_proved(self):
         """A `no` is proved if each write has a reply that says whether it was performed, and not else."""
         settled = index(0) + created(0, 1, 0) + index(1) + conflict(1)
+        unseen = index(0) + created(0, 1, 0) + get(1) + missing(1)
         self.run_subtests(
             self.check_unsettled,
             [
@@ -199,14 +203,29 @@ class Objects(ProgramTest):
                 ("a write is lost", settled + index(2, doc="e") + lost(2), "plain", False),
                 ("a write is open", settled + index(2, doc="e"), "plain", False),
                 ("a get is lost", settled + get(2) + lost(2), "plain", True),
+                ("no conflict", unseen, "maybe", True),
+                ("a conflict that may have been a write", unseen + index(2) + conflict(2), "maybe", False),
             ],
         )
 
     def test_nothing_in_pieces(self):
-        """After a fault nothing was written."""
-        status, out, why = self.run_in(["check", "--json", "h", "absent"], {"h": index(0)})
-        self.assertEqual((status, out), (4, ""))
-        self.assertIn("absent: no such file", why)
+        """After a fault nothing was written: not of a file that was judged before either."""
+        for name, fault in (("absent", "no such file"), ("d", "is a directory")):
+            with self.subTest(name):
+                status, out, why = self.run_in(["check", "--json", "h", name], {"h": index(0)})
+                self.assertEqual((status, out), (4, ""))
+                self.assertIn(f"{name}: {fault}", why)
+
+    def test_milliseconds(self):
+        """They count the time in which the text is read."""
+        words = [self.program, "check", "--json"]
+        with subprocess.Popen(words, stdin=subprocess.PIPE, stdout=subprocess.PIPE, text=True) as child:
+            child.stdin.write(index(0))
+            child.stdin.flush()
+            # (long enough for a program that begins late)
+            time.sleep(2)
+            out, _ = child.communicate(created(0, 1, 0))
+        self.assertGreaterEqual(json.loads(out)["milliseconds"], 300)
 
 
 if __name__ == "__main__":
