@@ -270,10 +270,11 @@ HONEST = {
 
 # Recordings of stores that broke their promise: a name, the scenario, the kind of evidence, and the anomalies that an
 # explanation may name. A get that is behind shows an old version, or no document, or neither a write that another get
-# has shown before; a failover that gives versions anew shows at first that writes were lost.
+# has shown before. A failover that loses writes, deletes among them, and gives their versions anew may show by any call
+# first, and so as any anomaly; but one is named.
 BEHIND = ("Stale read", "Acknowledged write not seen", "Shown and taken back")
-LOST = (*BEHIND, "One version given twice", "Acknowledged write lost", "Lost update", "Version that nobody wrote")
-LOST += ("Read of something nobody wrote",)
+LOST = (*BEHIND, "One version given twice", "Acknowledged write lost", "Lost update", "Condition not honoured")
+LOST += ("Version that nobody wrote", "Read of something nobody wrote", "Conflict without a cause")
 BROKEN = {
     "etcd": [("etcd, stale gets", "stale", "stale-get", BEHIND)],
     "redis": [("Redis, a failover", "failover", "pair-twice", LOST)],
