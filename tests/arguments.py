@@ -253,7 +253,7 @@ REFUSED = [
     *wrong_numbers("check", "--at-least", "--at-least <CALLS>"),
     ("witness --at-least 1", UNKNOWN.format("--at-least")),
     ("explain --at-least 1", UNKNOWN.format("--at-least")),
-    ("explain --json story", UNKNOWN.format("--json")),
+    ("bulk --json story story", UNKNOWN.format("--json")),
     ("run --json", UNKNOWN.format("--json")),
     ("check --json=1", A_VALUE.format("1", "--json")),
     ("check --json --json", TWICE.format("--json")),
@@ -497,8 +497,9 @@ class Arguments(ProgramTest):
         """The options of a page that is made with these arguments."""
         reading = "maybe" if "=maybe" in arguments else "plain"
         ruling = "--rule-out " if "--rule-out" in arguments else ""
-        drawn = re.search(r" --document .*", arguments)
-        return OPTIONS.format(reading, ruling, 3 if "--workers 3" in arguments else 1, drawn[0] if drawn else "")
+        drawn = re.search(r" --document (\S+)(.*)", arguments)
+        drawn = f" --document &quot;{drawn[1]}&quot;{drawn[2]}" if drawn else ""
+        return OPTIONS.format(reading, ruling, 3 if "--workers 3" in arguments else 1, drawn)
 
     def test_stories(self):
         """The story begins as is wanted, and the page is the known one."""

@@ -16,7 +16,8 @@ made.
 
 After a read fault nothing has been written; after a write fault a front of what is written else, just up to that write;
 if no call fails the answer is what it is else. A page is there only if no call failed, and whole then; no other file is
-left beside it. Each time just those calls are made that are wanted, file by file, and none after the one that fails.
+left beside it. Each time just those calls are made that are wanted, file by file, and none after the one that fails, but
+for the others of several files.
 """
 
 import errno
@@ -71,12 +72,14 @@ class Output(NamedTuple):
 
 
 class Row(NamedTuple):
-    """A command, the exit status and the beginning of its answer, and the texts that it reads, in their order."""
+    """A command, the exit status and the beginning of its answer, the texts that it reads, in their order, and whether it
+    reads the others after one that fails."""
 
     arguments: str
     status: int
     begins: str
     texts: tuple
+    reads_on: bool = False
 
 
 class Failing(NamedTuple):
@@ -126,7 +129,7 @@ ROWS = [
     Row("", 0, yes(1), (history(MISSED),)),
     Row("check history --workers 2 --conflicts maybe", 1, no_writer(1, 0), (history(STRAY),)),
     Row("check", 2, refused(1, "json"), (history(CUT),)),
-    Row("check history other", 1, f"history: {yes(1)}other: {no_writer(1, 0)}", (history(MISSED), Text("other", STRAY))),
+    Row("check history other", 1, f"history: {yes(1)}other: {no_writer(1, 0)}", (history(MISSED), Text("other", STRAY)), True),
     Row("check history", 2, refused(3, "ended"), (history(ENDED + OPEN, len(ENDED)),)),
     Row("witness", 0, WITNESS, (history(MISSED),)),
     Row("witness history", 2, refused(2, "shape"), (history("\n{}\n" + OPEN, 4),)),
@@ -191,7 +194,8 @@ def wanted(row, plain, failing):
         return plain._replace(calls=before + "n" * counts[at] + after)
     out = plain.out[: (number - 1) * size] if name == OUT else b""
     why = WRITE_FAULT if name in (OUT, PAGE) else READ_FAULT
-    return Ended(4, out, why, None, before + "n" * (number - 1) + "!", ())
+    others = [it.calls(size) for it in files[at + 1 :] if row.reads_on and isinstance(it, Text)]
+    return Ended(4, out, why, None, before + "n" * (number - 1) + "!" + "." * sum(others), ())
 
 
 def numbers(count):

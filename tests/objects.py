@@ -22,7 +22,7 @@ from running import run
 from texts import OFFENCE, conflict, created, get, index, lost, missing, no_calls, status_of, too_few
 
 # The commands that answer in objects if they are asked for, and the first words of the lines that are answers of one.
-COMMANDS = {"check", "verify", "witness"}
+COMMANDS = {"check", "verify", "witness", "explain"}
 ANSWERS = re.compile(r"(?:yes|no|refuted|refused|verified|broken) [^\n]*\n")
 
 # Replies to a write that say whether it was performed, by their results or statuses.
@@ -116,7 +116,7 @@ class Objects(ProgramTest):
     """Each object, and what it has beside the members of its line."""
 
     def check_object(self, out, line, history, files, reading="plain"):
-        """Compares an object with the line, and with what else is known of the files."""
+        """Compares an object with the line, and with what else is known of the files; of `explain` it has the explanation."""
         said = json.loads(out)
         milliseconds = said.pop("milliseconds")
         self.assertTrue(type(milliseconds) is int and 0 <= milliseconds < 120_000)
@@ -124,7 +124,7 @@ class Objects(ProgramTest):
         self.assertEqual(out, compact({**said, "milliseconds": milliseconds}))
 
     def check_case(self, arguments, texts):
-        line = texts["stdout"].decode()
+        text = texts["stdout"].decode()
         named = [it for it in arguments[1:] if it in FILES]
         with tempfile.TemporaryDirectory() as folder:
             for name in FILES:
@@ -133,12 +133,17 @@ class Objects(ProgramTest):
             given = b"" if named else texts["history"]
             status, out, why = run(self.program, [*(arguments or ["check"]), "--json"], given, cwd=folder)
         self.assertEqual(status, int(texts["status"]))
-        self.assertEqual(why, no_calls("history" if named else "") if line.startswith("yes docs=0") else "")
-        if not ANSWERS.fullmatch(line):
-            self.assertEqual(out, line)
+        is_explained = arguments[:1] == ["explain"]
+        is_noted = text.startswith("yes docs=0") and not is_explained
+        self.assertEqual(why, no_calls("history" if named else "") if is_noted else "")
+        if not ANSWERS.match(text):
+            self.assertEqual(out, text)
             return
+        line, explanation = text[: text.index("\n") + 1], text[text.index("\n") + 1 :]
         files = {"file": "history" if named else "-"}
-        if arguments and arguments[0] == "verify":
+        if is_explained:
+            files["explanation"] = explanation
+        if arguments[:1] == ["verify"]:
             files["witness"] = "witness"
         self.check_object(out, line, texts["history"].decode(errors="replace"), files, reading_of(arguments))
 
@@ -168,17 +173,19 @@ class Objects(ProgramTest):
         self.check_object(out, line, TIMED, {"file": "h"})
 
     def test_several_files(self):
-        """Each file has an object, in the order of the arguments, whose status is as without."""
+        """Each file has an object, in the order of the arguments, whose status is as without, however many workers there are."""
         right, wrong = case_text("index-then-get"), case_text("hidden-conflict")
         files = {"a": right, "b": wrong, "é \"": "", "torn": "{"}
         arguments = ["check", "a", "b", "é \"", "-", "torn"]
         plain = self.run_in(arguments, files, right)
-        status, out, why = self.run_in([*arguments, "--json"], files, right)
-        self.assertEqual((status, why), (plain[0], plain[2]))
         texts = [*zip(arguments[1:], [right, wrong, "", right, "{"])]
-        self.assertEqual(out.count("\n"), len(texts))
-        for (name, text), line, written in zip(texts, plain[1].splitlines(True), out.splitlines(True)):
-            self.check_object(written, line.removeprefix(f"{name}: "), text, {"file": name})
+        for workers in ("1", "2", "3", "16"):
+            self.assertEqual(self.run_in([*arguments, "--workers", workers], files, right), plain)
+            status, out, why = self.run_in([*arguments, "--json", "--workers", workers], files, right)
+            self.assertEqual((status, why), (plain[0], plain[2]))
+            self.assertEqual(out.count("\n"), len(texts))
+            for (name, text), line, written in zip(texts, plain[1].splitlines(True), out.splitlines(True)):
+                self.check_object(written, line.removeprefix(f"{name}: "), text, {"file": name})
 
     def test_too_few(self):
         """The exit status and the note of too few calls are as without."""
@@ -215,6 +222,17 @@ class Objects(ProgramTest):
                 status, out, why = self.run_in(["check", "--json", "h", name], {"h": index(0)})
                 self.assertEqual((status, out), (4, ""))
                 self.assertIn(f"{name}: {fault}", why)
+
+    def test_page(self):
+        """A page that is written beside an object is the one that is written beside the text."""
+        with tempfile.TemporaryDirectory() as folder:
+            (pathlib.Path(folder) / "h").write_text(TIMED)
+            pages = []
+            for words in ([], ["--json"]):
+                run(self.program, ["explain", "h", "--html", "page", *words], cwd=folder)
+                pages.append((pathlib.Path(folder) / "page").read_text())
+        self.assertEqual(pages[0], pages[1])
+        self.assertTrue(pages[0].startswith("<!doctype html>"))
 
     def test_milliseconds(self):
         """They count the time in which the text is read."""

@@ -84,7 +84,9 @@ SECTIONS = (
         (
             "places/specs/Places.antt",
             "places/specs/Witness.antt",
-            "compose/specs/Covers.antt",
+            "covers/specs/Covers.antt",
+            "shard_numbers/specs/Taken.antt",
+            "covers/specs/Answered.antt",
             "compose/specs/VerifyFaults.antt",
             "places/specs/Faults.antt",
             "write_chain/specs/Chain.antt",

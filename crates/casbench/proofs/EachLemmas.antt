@@ -1,15 +1,20 @@
 -- What is written of several texts, one after the other.
-use Rattle.std.proofs.Common.{◌≡◌, ◌∙◌, ◌++◌, ◌∷◌, ℕ, [], List, Option, Some, ap, map, refl, subst, sym, true}
+use Rattle.std.proofs.Common.{◌≡◌, ◌∙◌, ◌++◌, ◌∷◌, ◌<◌, ◌+◌, ℕ, [], Err, List, Ok, Option, Result, Some, add-one, ap, get_or, length, map, refl, subst, sym, take, true}
 use Rattle.std.specs.List.{All}
 use Rattle.std.proofs.lemmas.Option.{IfSome_then}
 use Rattle.casbench.specs.Outcomes.{IsJudged, status_of}
-use Rattle.casbench.specs.declared.check_each.Written.{Written}
+use Rattle.casbench.specs.aids.Checking.{HasCome, IsWrittenOf}
+use Rattle.stream_io.specs.Faults.{IsCheckFault, IsReadingFault}
+use Rattle.stream_io.specs.declared.stream_fault.StreamFault.{StreamFault}
+use Rattle.std.specs.Prelude.{IfErr, IfOk}
+use Rattle.casbench.specs.declared.named_text.Written.{Written}
 use Rattle.report.specs.Calls.{CountsCalls}
 use Rattle.report.specs.Verdict.{AnswersInput}
 use Rattle.stream_io.specs.declared.status.Status.{Status}
 use Rattle.std.proofs.lemmas.List.{flat_map_more, map-append}
+use Rattle.std.proofs.Math.Seq.{take-suc}
 use Rattle.std.proofs.lemmas.List.Elements.{All-cons, All-head, All-nil, All-push, All-tail}
-use Rattle.casbench.specs.Each.{AnswersEach, AnswersOne, AreOfFiles, CheckedText, IsWrittenOf, Named, greatest_from, named_of}
+use Rattle.casbench.specs.Each.{AnswersEach, AnswersOne, AreOfFiles, CheckedText, Named, greatest_from, named_of}
 use Rattle.casbench.specs.Exit.{greater_outcome}
 use Rattle.casbench.specs.Input.{names_input}
 use Rattle.casbench.specs.declared.form.Form.{Form}
@@ -62,6 +67,29 @@ answers_one ruling conflicts least form name input it outcome written same judge
   answers = subst (λ (s : Status). AnswersInput ruling conflicts input s written.line) (sym same) written.answers;
   judged = IfSome_then input written.counted judged;
 }
+
+-- a check that ended came to what it returned
+pub has_come : (ruling : RulingOut) (conflicts : Conflicts) (form : Form) (workers : ℕ) (name : List ℕ) (input : Option (List ℕ)) (r : Result Written StreamFault)
+    → IfOk r (IsWrittenOf ruling conflicts form name input) → IfErr r IsCheckFault → (workers ≡ 1 → IfErr r IsReadingFault)
+    → HasCome ruling conflicts form workers name input (Some r)
+has_come ruling conflicts form workers name input (Ok it) written fault alone = written
+has_come ruling conflicts form workers name input (Err it) written fault alone = (fault, alone)
+
+-- of one more of the texts its line is added, which is written of it, as it is judged
+pub one_more_written : {S : Type 0} (remaining : S → Option (List ℕ)) (ruling : RulingOut) (conflicts : Conflicts) (least : ℕ) (form : Form) (texts : List (NamedText S)) (i : ℕ) (d : NamedText S)
+    {before : Outcome} {lines : List ℕ} (it : Written) (outcome : Outcome) → i < length texts
+    → AnswersEach ruling conflicts least form (map (named_of remaining) (take i texts)) before lines
+    → IsWrittenOf ruling conflicts form (get_or texts i d).name.now (remaining (get_or texts i d).source) it → status_of outcome ≡ it.status
+    → ((bytes : List ℕ) → CountsCalls bytes it.status it.calls → IsJudged least bytes outcome)
+    → AnswersEach ruling conflicts least form (map (named_of remaining) (take (i + 1) texts)) (greater_outcome before outcome) (lines ++ it.text.items)
+one_more_written remaining ruling conflicts least form texts i d {before} {lines} it outcome within each written same judged =
+    let text = get_or texts i d in
+    let one = answers_one ruling conflicts least form text.name.now (remaining text.source) it outcome written same judged in
+    let more : map (named_of remaining) (take (i + 1) texts) ≡ map (named_of remaining) (take i texts) ++ named_of remaining text ∷ [] =
+    ap (λ n. map (named_of remaining) (take n texts)) (add-one i) ∙ ap (map (named_of remaining)) (take-suc texts i d within)
+    ∙ map-append (named_of remaining) (take i texts) (text ∷ []) in
+    subst (λ ts. AnswersEach ruling conflicts least form ts (greater_outcome before outcome) (lines ++ it.text.items)) (sym more)
+    (one_more ruling conflicts least form each one)
 
 -- ---- the texts of files
 

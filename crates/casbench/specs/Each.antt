@@ -4,8 +4,8 @@ use Rattle.std.specs.Io.KnownBytes.{Appends}
 use Rattle.std.specs.List.{All, flat_map}
 use Rattle.casbench.specs.Exit.{greater_outcome}
 use Rattle.casbench.specs.Input.{names_input}
+use Rattle.casbench.specs.Objects.{IsObjectOn}
 use Rattle.casbench.specs.Outcomes.{IsJudged, status_of}
-use Rattle.casbench.specs.declared.check_each.Written.{Written}
 use Rattle.casbench.specs.declared.form.Form.{Form}
 use Rattle.casbench.specs.declared.form.Form.TheVariants.{Lines, Objects}
 use Rattle.casbench.specs.declared.named_text.NamedText.{NamedText}
@@ -13,9 +13,7 @@ use Rattle.casbench.specs.declared.outcome.Outcome.{Outcome}
 use Rattle.casbench.specs.declared.outcome.Outcome.TheVariants.{Answered}
 use Rattle.doc_register.specs.declared.state.Conflicts.{Conflicts}
 use Rattle.evidence.specs.declared.ruling_out.RulingOut.{RulingOut}
-use Rattle.report.specs.Calls.{CountsCalls}
 use Rattle.report.specs.Verdict.{AnswersInput}
-use Rattle.result_lines.specs.Objects.{IsObjectOf}
 use Rattle.stream_io.specs.declared.status.Status.TheVariants.{Yes}
 
 -- a text: its name, and its bytes, if they are known
@@ -29,11 +27,11 @@ abbrev pub named_of : {S : Type 0} → (S → Option (List ℕ)) → NamedText S
 named_of remaining text = (text.name.now, remaining text.source)
 
 -- what is written of a text in this form, if this is its line: the line behind the text's name and a colon; or the
--- object of the line (`IsObjectOf`)
+-- object of the line (`IsObjectOn`)
 -- Source: profile.
-abbrev pub IsInForm : Form → List ℕ → List ℕ → List ℕ → Type 0
-IsInForm Lines name line written = written ≡ name ++ (codes ": " ++ line)
-IsInForm Objects name line written = IsObjectOf name line written
+abbrev pub IsInForm : Conflicts → Form → List ℕ → Option (List ℕ) → List ℕ → List ℕ → Type 0
+IsInForm conflicts Lines name input line written = written ≡ name ++ (codes ": " ++ line)
+IsInForm conflicts Objects name input line written = IsObjectOn conflicts name input line written
 
 -- What is written of one text: a line, in this form, which answers the bytes as a check of the text alone does
 -- (`AnswersInput`, `IsJudged`).
@@ -41,18 +39,11 @@ IsInForm Objects name line written = IsObjectOf name line written
 pub record AnswersOne (ruling : RulingOut) (conflicts : Conflicts) (least : ℕ) (form : Form) (text : Named) (outcome : Outcome) (written : List ℕ) : Type 0 where
   pub line : List ℕ
   -- it is written in this form
-  pub named : IsInForm form text.0 line written
+  pub named : IsInForm conflicts form text.0 text.1 line written
   -- it answers the bytes, with the status of the outcome
   pub answers : AnswersInput ruling conflicts text.1 (status_of outcome) line
   -- a yes is about fewer calls than are asked for just if the outcome is `TooFew`
   pub judged : IfSome text.1 (λ input. IsJudged least input outcome)
-
--- what is written of a text, before it is known how many calls are asked for
-pub record IsWrittenOf (ruling : RulingOut) (conflicts : Conflicts) (form : Form) (name : List ℕ) (input : Option (List ℕ)) (it : Written) : Type 0 where
-  pub line : List ℕ
-  pub named : IsInForm form name line it.text.items
-  pub answers : AnswersInput ruling conflicts input it.status line
-  pub counted : IfSome input (λ bytes. CountsCalls bytes it.status it.calls)
 
 -- A text that was checked: what it is, what the check came to, and the line that is written of it.
 -- Source: profile.

@@ -20,3 +20,4 @@ MayFail (request.Bulk body reply first) fault = IsStreamFault fault
 MayFail (request.Run setting manner) fault = IsRunFault fault
 MayFail (request.Search seeds setting disturbance) fault = IsRunFault fault
 MayFail (request.Explain file conflicts workers ruling page) fault = IsWorkedFault fault
+MayFail (request.ExplainInJson file conflicts workers ruling page) fault = IsWorkedFault fault

@@ -1,28 +1,52 @@
 -- What is written in objects of JSON.
-use Rattle.std.specs.Prelude.{ℕ, List, Option, IfSome}
+use Rattle.std.specs.Prelude.{◌≡◌, ℕ, List, Option, IfSome, Some}
 use Rattle.doc_register.specs.declared.state.Conflicts.{Conflicts}
 use Rattle.evidence.specs.declared.ruling_out.RulingOut.{RulingOut}
-use Rattle.report.specs.Verdict.{IsVerifyAnswer, IsWitnessAnswer}
-use Rattle.result_lines.specs.Objects.{IsObjectOf}
+use Rattle.report.specs.Details.{IsProvedOf}
+use Rattle.report.specs.Verdict.{AnswersInput, IsVerifyAnswer, IsWitnessAnswer}
+use Rattle.result_lines.specs.Objects.{line_of, object_text}
+use Rattle.result_lines.specs.declared.facts.Facts.{Facts}
+use Rattle.result_lines.specs.declared.reported.Reported.{Reported}
 use Rattle.stream_io.specs.declared.status.Status.{Status}
 use Rattle.stream_io.specs.declared.status.Status.TheVariants.{Yes, No, Refuted, Refused}
 
+-- The text is an object whose members are those of this line, of a history that the file of this name had as
+-- these bytes, if they are known, with other facts.
+-- Source: profile.
+pub record IsObjectOn (conflicts : Conflicts) (file : List ℕ) (input : Option (List ℕ)) (line text : List ℕ) : Type 0 where
+  pub reported : Reported
+  pub facts : Facts
+  -- the line reports it
+  pub says : line ≡ line_of reported
+  -- the file is named
+  pub named : facts.file.now ≡ file
+  -- what is said to be proved of the bytes is (`IsProvedOf`)
+  pub proved : IfSome input (λ bytes. IsProvedOf conflicts bytes reported facts.proved)
+  pub written : text ≡ object_text reported facts
+
 -- what is written if a witness is asked for: the text of one if the status is Yes; else the object of the line of a
--- check, of the history of this file (`IsWitnessAnswer`, `IsObjectOf`)
+-- check, of the history of this file (`IsWitnessAnswer`, `IsObjectOn`)
 -- Source: profile.
 abbrev pub IsWitnessInJson : List ℕ → RulingOut → Conflicts → List ℕ → Status → List ℕ → Type 0
 IsWitnessInJson file ruling conflicts input Yes text = IsWitnessAnswer ruling conflicts input Yes text
-IsWitnessInJson file ruling conflicts input No text = (line : List ℕ) × IsWitnessAnswer ruling conflicts input No line × IsObjectOf file line text
-IsWitnessInJson file ruling conflicts input Refuted text = (line : List ℕ) × IsWitnessAnswer ruling conflicts input Refuted line × IsObjectOf file line text
-IsWitnessInJson file ruling conflicts input Refused text = (line : List ℕ) × IsWitnessAnswer ruling conflicts input Refused line × IsObjectOf file line text
+IsWitnessInJson file ruling conflicts input No text = (line : List ℕ) × IsWitnessAnswer ruling conflicts input No line × IsObjectOn conflicts file (Some input) line text
+IsWitnessInJson file ruling conflicts input Refuted text = (line : List ℕ) × IsWitnessAnswer ruling conflicts input Refuted line × IsObjectOn conflicts file (Some input) line text
+IsWitnessInJson file ruling conflicts input Refused text = (line : List ℕ) × IsWitnessAnswer ruling conflicts input Refused line × IsObjectOn conflicts file (Some input) line text
 
 -- the same for the bytes that the reader had, if they are known
 abbrev pub WitnessesInJson : List ℕ → RulingOut → Conflicts → Option (List ℕ) → Status → List ℕ → Type 0
 WitnessesInJson file ruling conflicts input status text = IfSome input (λ bytes. IsWitnessInJson file ruling conflicts bytes status text)
 
 -- what is written of a check of a witness: the object of its line, of the history of this file, for the bytes that the
--- two readers had, if they are known (`IsVerifyAnswer`, `IsObjectOf`)
+-- two readers had, if they are known (`IsVerifyAnswer`, `IsObjectOn`)
 -- Source: profile.
 abbrev pub VerifiesInJson : List ℕ → Conflicts → Option (List ℕ) → Option (List ℕ) → Status → List ℕ → Type 0
 VerifiesInJson file conflicts history witness status text =
-    IfSome history (λ h. IfSome witness (λ w. (line : List ℕ) × IsVerifyAnswer conflicts h w status line × IsObjectOf file line text))
+    IfSome history (λ h. IfSome witness (λ w. (line : List ℕ) × IsVerifyAnswer conflicts h w status line × IsObjectOn conflicts file (Some h) line text))
+
+-- what is written of a check that is explained: the object of its line, of the history of this file, for the bytes
+-- that the reader had, if they are known (`AnswersInput`, `IsObjectOn`)
+-- Source: profile.
+abbrev pub ExplainsInJson : List ℕ → RulingOut → Conflicts → Option (List ℕ) → Status → List ℕ → Type 0
+ExplainsInJson file ruling conflicts input status text =
+    (line : List ℕ) × AnswersInput ruling conflicts input status line × IsObjectOn conflicts file input line text

@@ -1,1 +1,3 @@
+pub mod Checking
+pub mod Explaining
 pub mod Source

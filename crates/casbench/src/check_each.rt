@@ -1,13 +1,16 @@
-ghost use Rattle.std.specs.Prelude.{◌≡◌, ◌≢◌, ◌++◌, IfErr, IfOk, IsErrOf, codes, map};
+ghost use Rattle.std.specs.Prelude.{Some as Just, None as Nothing, Ok as Fine, Err as Failed, ◌≡◌, ◌≢◌, ◌≤◌, ◌++◌, ℕ, List, IfErr, IfOk, IsErrOf, codes, length, map};
 ghost use Rattle.std.specs.Io.KnownBytes.{Keeps};
-ghost use Rattle.casbench.specs.Each.{AnswersEach, AnswersOne, IsCutOffEach, IsWrittenOf, named_of};
+ghost use Rattle.casbench.specs.Each.{AnswersEach, IsCutOffEach, named_of};
+ghost use Rattle.casbench.specs.Outcomes.{IsJudged, status_of};
+ghost use Rattle.casbench.specs.aids.Checking.{AreChecked, IsChecked, IsWrittenOf};
+ghost use Rattle.report.specs.Calls.{CountsCalls};
 ghost use Rattle.report.specs.Workers.{AreWorkers};
 ghost use Rattle.stream_io.specs.Faults.{IsCheckFault, IsReadingFault, IsStreamFault, IsWorkedFault};
 ghost use Rattle.stream_io.specs.Written.{HasAnswer};
 
 use crate::exit::greater;
 use crate::form::Form;
-use crate::named_text::NamedText;
+use crate::named_text::{NamedText, Written};
 use crate::notes::{note_calls, note_if_compressed};
 use crate::objects::details_object;
 use crate::outcome::{Outcome, outcome_of};
@@ -20,17 +23,9 @@ use std::alloc::{AllocError, Global};
 use std::io::{Read, Write};
 use std::rt::Files;
 use std::sync::Wait;
-use std::thread::Threads;
+use std::thread::{Threads, for_each_mut};
 use std::time::Clock;
 use stream_io::write_text;
-
-/// What is written of a text: with which status, and of how many calls, if that is known.
-#[derive(Drop)]
-pub struct Written {
-    pub status: Status,
-    pub calls: Option<usize>,
-    pub text: Vec<u8>,
-}
 
 // Returns the line behind the name of its text.
 fn named_line(alloc: Global, name: &str, line: &[u8]) -> Result<Vec<u8>, AllocError>
@@ -85,7 +80,7 @@ fn check_in_object<F: Clock, T: Threads + Wait + Sync, S: Read>(
     Ok(Written {
         status: status_of(&details.reported),
         calls: calls_reported(&details.reported),
-        text: details_object(alloc, name, details, stopwatch.milliseconds(rt))?,
+        text: details_object(alloc, name, details, None, stopwatch.milliseconds(rt))?,
     })
 }
 
@@ -111,35 +106,101 @@ fn check_in_form<F: Clock, T: Threads + Wait + Sync, S: Read>(
     }
 }
 
-// Checks a text, and returns what it came to, and what is written of it.
-fn check_named<F: Files + Eprint + Clock, T: Threads + Wait + Sync, S: Read + Drop>(
+// Returns the options with which each of so many texts is checked beside others: the workers are shared out.
+fn shared_out(options: CheckOptions, texts: usize) -> CheckOptions
+    requires some { 1 ≤ texts }
+    requires workers { AreWorkers options.workers }
+    ensures workers { AreWorkers result.workers }
+    ensures alone { options.workers ≡ 1 → result.workers ≡ 1 }
+    ensures conflicts { result.conflicts ≡ options.conflicts }
+    ensures ruling_out { result.ruling_out ≡ options.ruling_out }
+{
+    CheckOptions {
+        workers: (options.workers / texts).max(1),
+        ..options
+    }
+}
+
+// Checks the text beside others, so many in all. It then holds what is written of it.
+fn check_named<F: Clock, T: Threads + Wait + Sync, S: Read>(
     rt: &F,
     threads: &T,
     alloc: Global,
     keys: HashKeys,
-    text: NamedText<'_, S>,
+    text: &mut NamedText<'_, S>,
     options: CheckOptions,
-    at_least: u64,
     form: Form,
-) -> Result<(Outcome, Vec<u8>), StreamFault>
+    beside: usize,
+)
+    requires some { 1 ≤ beside }
     requires workers { AreWorkers options.workers }
-    ensures answered { IfOk result (λ made. AnswersOne options.ruling_out options.conflicts at_least form (named_of S.remaining text.entry)
-        made.0 made.1.items) }
-    ensures reported { IfErr result IsCheckFault }
-    ensures alone { options.workers ≡ 1 → IfErr result IsReadingFault }
+    ensures { IsChecked S.remaining options.ruling_out options.conflicts form options.workers text.old text.new }
 {
-    let NamedText { name, mut source } = text;
-    let written = check_in_form(rt, threads, alloc, keys, name, &mut source, options, form)?;
+    let own = shared_out(options, beside);
+    let name = text.name;
+    let written = check_in_form(rt, threads, alloc, keys, name, &mut text.source, own, form);
+    text.written = Some(written);
+}
+
+// Checks each of the texts, as many beside each other as there are workers.
+fn check_all<F: Clock + Sync, T: Threads + Wait + Sync, S: Read + Send>(
+    rt: &F,
+    threads: &T,
+    alloc: Global,
+    keys: HashKeys,
+    texts: &mut [NamedText<'_, S>],
+    options: CheckOptions,
+    form: Form,
+)
+    requires workers { AreWorkers options.workers }
+    ensures checked { AreChecked S.remaining options.ruling_out options.conflicts form options.workers texts.old texts.new }
+    ensures all { length texts.new ≡ length texts.old }
+{
+    let beside = texts.len().clamp(1, options.workers);
+    for_each_mut(
+        threads,
+        texts,
+        beside,
+        &|_, text: &mut NamedText<'_, S>|
+            requires { AreWorkers options.workers × (1 ≤ beside) }
+        { check_named(rt, threads, alloc, keys, text, options, form, beside) },
+    );
+}
+
+// Returns what is written of a text that was checked, or why nothing is.
+fn written_of<'t, S>(text: &'t NamedText<'_, S>) -> Result<&'t Written, StreamFault>
+    requires { text.now.written ≢ Nothing }
+    ensures written { IfOk result (λ it. text.now.written ≡ Just (Fine it.now)) }
+    ensures fault { IfErr result (λ fault. text.now.written ≡ Just (Failed fault)) }
+{
+    match &text.written {
+        Some(Ok(written)) => Ok(written),
+        Some(Err(fault)) => Err(*fault),
+        None => unreachable!(),
+    }
+}
+
+// Returns what a text came to of which this is written. If it has few calls, or may be compressed, standard error says
+// so.
+fn judged<F: Files + Eprint>(
+    rt: &F,
+    alloc: Global,
+    name: &str,
+    written: &Written,
+    at_least: u64,
+) -> Outcome
+    ensures status { status_of result ≡ written.now.status }
+    ensures judged { (input : List ℕ) → CountsCalls input written.now.status written.now.calls → IsJudged at_least input result }
+{
     note_calls(rt, alloc, Some(name), written.calls, at_least);
     if written.status == Status::Refused {
         note_if_compressed(rt, Some(name));
     }
-    let outcome = outcome_of(written.status, written.calls, at_least);
-    Ok((outcome, written.text))
+    outcome_of(written.status, written.calls, at_least)
 }
 
-// Checks each of the texts in turn, and returns what they came to, and what is written of them.
-fn check_in_turn<F: Files + Eprint + Clock, T: Threads + Wait + Sync, S: Read + Drop>(
+// Checks each of the texts, and returns what they came to, and what is written of them.
+fn checked_texts<F: Files + Eprint + Clock + Sync, T: Threads + Wait + Sync, S: Read + Send + Drop>(
     rt: &F,
     threads: &T,
     alloc: Global,
@@ -155,23 +216,33 @@ fn check_in_turn<F: Files + Eprint + Clock, T: Threads + Wait + Sync, S: Read + 
     ensures reported { IfErr result IsCheckFault }
     ensures alone { options.workers ≡ 1 → IfErr result IsReadingFault }
 {
+    let mut texts = texts;
+    check_all(rt, threads, alloc, keys, &mut texts, options, form);
     let mut outcome = Outcome::Answered(Status::Yes);
     let mut lines = Vec::new(alloc);
-    for text in texts {
-        let (next, line) = check_named(rt, threads, alloc, keys, text, options, at_least, form)?;
+    for place in 0..texts.len() {
+        let text = &texts[place];
+        let written = written_of(text)?;
+        let next = judged(rt, alloc, text.name, written, at_least);
         outcome = greater(outcome, next);
-        lines.extend_from_slice(&line)?;
+        lines.extend_from_slice(&written.text)?;
     }
     Ok((outcome, lines))
 }
 
-/// Checks each of several texts in turn, and writes for each its line, as `check` does, behind its name and a
-/// colon, or its object. The outcome is the one with the greatest exit status. Nothing is written before all are checked. If
-/// the answer to one is yes, and it has no calls or fewer than are asked for, standard error says so. It waits
-/// as `report::check_stream` does.
+/// Checks each of several texts, and writes for each its line, as `check` does, behind its name and a colon, or its
+/// object, in the order of the texts. The outcome is the one with the greatest exit status. As many texts are checked
+/// beside each other as there are workers; with more workers than texts each text has several. Nothing is written
+/// before all are checked. If the answer to one is yes, and it has no calls or fewer than are asked for, standard
+/// error says so. It waits as `report::check_stream` does.
 ///
-/// Errors: `Read`, `NoMemory` and `Worker`, whichever comes first; then `Write`.
-pub fn check_each<F: Files + Eprint + Clock, T: Threads + Wait + Sync, S: Read + Drop, W: Write>(
+/// Errors: `Read`, `NoMemory` and `Worker`, those of the first text that has one; then `Write`.
+pub fn check_each<
+    F: Files + Eprint + Clock + Sync,
+    T: Threads + Wait + Sync,
+    S: Read + Send + Drop,
+    W: Write,
+>(
     rt: &F,
     threads: &T,
     alloc: Global,
@@ -184,10 +255,10 @@ pub fn check_each<F: Files + Eprint + Clock, T: Threads + Wait + Sync, S: Read +
 ) -> Result<Outcome, StreamFault>
     // There are 1 to 16 workers.
     requires workers { AreWorkers options.workers }
-    // The writer holds the lines after what it held, and they answer the bytes of the texts, in their order.
+    // The writer holds the lines or objects after what it held, and they answer the bytes of the texts, in their order.
     ensures answered { IfOk result (λ outcome. HasAnswer (AnswersEach options.ruling_out options.conflicts at_least form (map (named_of S.remaining) texts.entry.items) outcome)
         (W.contents writer.old) (W.contents writer.new)) }
-    // After `Write` the writer holds a prefix of such lines after what it held.
+    // After `Write` the writer holds a prefix of such a text after what it held.
     ensures cut_off { IsErrOf result StreamFault.Write
         → IsCutOffEach options.ruling_out options.conflicts at_least form (map (named_of S.remaining) texts.entry.items)
         (W.contents writer.old) (W.contents writer.new) }
@@ -199,7 +270,7 @@ pub fn check_each<F: Files + Eprint + Clock, T: Threads + Wait + Sync, S: Read +
     // With one worker, the caller's thread, the error is never `Worker`.
     ensures alone { options.workers ≡ 1 → IfErr result IsStreamFault }
 {
-    let (outcome, lines) = check_in_turn(rt, threads, alloc, keys, texts, options, at_least, form)?;
+    let (outcome, lines) = checked_texts(rt, threads, alloc, keys, texts, options, at_least, form)?;
     write_text(writer, &lines)?;
     Ok(outcome)
 }

@@ -122,11 +122,11 @@ fn open_next<R: Files + Eprint, I: Drop>(
     }
 }
 
-/// Opens each of the files in turn, as by `open`; `-` is the input, for one of them only. If one can't be
-/// opened, those behind it aren't tried; this order is tested, not proved.
-///
-/// Errors: `Read` if a file can't be opened, and `NoMemory`.
-pub fn open_each<'a, R: Files + Eprint, I: Drop>(
+// Opens each of the files in turn, as by `open`; `-` is the input, for one of them only. If one can't be
+// opened, those behind it aren't tried; this order is tested, not proved.
+//
+// Errors: `Read` if a file can't be opened, and `NoMemory`.
+fn open_each<'a, R: Files + Eprint, I: Drop>(
     rt: &R,
     alloc: Global,
     names: &[&'a str],
@@ -143,7 +143,12 @@ pub fn open_each<'a, R: Files + Eprint, I: Drop>(
     let mut texts = Vec::new(alloc);
     for name in names {
         let source = open_next(rt, name, &mut left)?;
-        match texts.push(NamedText { name, source }) {
+        let text = NamedText {
+            name,
+            source,
+            written: None,
+        };
+        match texts.push(text) {
             Ok(()) => {}
             Err(_) => return Err(StreamFault::NoMemory),
         }
@@ -151,7 +156,8 @@ pub fn open_each<'a, R: Files + Eprint, I: Drop>(
     Ok(texts)
 }
 
-/// Opens each of the files as `open_each` does; the input, named `-`, if there are none.
+/// Opens each of the files in turn, as by `open`; `-` is the input, for one of them only. If there are none it is the
+/// input, under this name. If one can't be opened, those behind it aren't tried; this order is tested, not proved.
 ///
 /// Errors: `Read` if a file can't be opened, and `NoMemory`.
 pub fn open_each_or<'a, R: Files + Eprint, I: Drop>(
@@ -174,6 +180,7 @@ pub fn open_each_or<'a, R: Files + Eprint, I: Drop>(
     let text = NamedText {
         name: INPUT,
         source: Source::Input(input),
+        written: None,
     };
     match texts.push(text) {
         Ok(()) => Ok(texts),

@@ -10,6 +10,7 @@
 mod check;
 mod check_each;
 mod exit;
+mod explain;
 mod files;
 mod form;
 mod named_text;
@@ -21,6 +22,7 @@ mod page_file;
 mod run;
 mod search_reporter;
 mod stopwatch;
+mod terminal;
 
 use clap::error::ErrorKind;
 use command_line::read_request;

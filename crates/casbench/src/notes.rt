@@ -1,14 +1,11 @@
 //! Notes for the user on standard error. They change no answer and no exit status.
 
 use crate::files::INPUT;
+use crate::terminal::{STANDARD_INPUT, is_terminal};
 use command_line::Request;
 use std::alloc::Global;
 use std::fs;
-use std::os::unix::fs::{FileTypeExt, MetadataExt};
 use std::rt::Files;
-
-// The name by which the system knows what standard input is.
-const STANDARD_INPUT: &str = "/dev/stdin";
 
 // The end of the names of files that gzip compressed.
 const COMPRESSED: &str = ".gz";
@@ -22,7 +19,8 @@ fn files_of<'a>(request: &Request<'a>) -> (Option<&'a str>, Option<&'a str>) {
         Request::Check { file, .. }
         | Request::Witness { file, .. }
         | Request::WitnessInJson { file, .. }
-        | Request::Explain { file, .. } => (Some(file.unwrap_or(INPUT)), None),
+        | Request::Explain { file, .. }
+        | Request::ExplainInJson { file, .. } => (Some(file.unwrap_or(INPUT)), None),
         Request::Verify {
             history,
             witness,
@@ -55,26 +53,9 @@ fn reads_input(request: &Request<'_>) -> bool {
     }
 }
 
-// Whether a device of this number is a terminal: a console or serial line, which drivers 4 and 5 have on
-// Linux, or a pseudo-terminal, which drivers 136 to 143 have.
-fn is_terminal_number(device: u64) -> bool {
-    let driver = device / 256 % 4096;
-    driver == 4 || driver == 5 || 136 <= driver && driver <= 143
-}
-
-// Whether standard input is a terminal.
-fn is_terminal(rt: &impl Files) -> bool {
-    match fs::metadata(rt, STANDARD_INPUT) {
-        Ok(metadata) => {
-            metadata.file_type().is_char_device() && is_terminal_number(metadata.rdev())
-        }
-        Err(_) => false,
-    }
-}
-
 /// If a text is read from a terminal, says so, and how the text is ended.
 pub fn note_terminal<R: Files + Eprint>(rt: &R, request: &Request<'_>) {
-    if reads_input(request) && is_terminal(rt) {
+    if reads_input(request) && is_terminal(rt, STANDARD_INPUT) {
         let _ = eprintln!(rt;
             "casbench: reads from the terminal until Ctrl-D on a line of its own; for help: casbench --help"
         );

@@ -1,42 +1,50 @@
 //! Answers that are written as objects of JSON.
 
-ghost use Rattle.std.specs.Prelude.{◌≢◌, IfErr, IfOk, IsErrOf, ℕ, List};
+ghost use Rattle.std.specs.Prelude.{◌≡◌, ◌≢◌, IfErr, IfOk, IfSome, IsErrOf, ℕ, List, Option as Maybe, Some as Just};
 ghost use Rattle.std.specs.Io.KnownBytes.{Keeps};
 ghost use Rattle.doc_register.specs.declared.state.Conflicts.{Conflicts as Reading};
 ghost use Rattle.evidence.specs.declared.ruling_out.RulingOut.{RulingOut as Ruling};
-ghost use Rattle.casbench.specs.Objects.{IsWitnessInJson, VerifiesInJson, WitnessesInJson};
+ghost use Rattle.casbench.specs.Objects.{ExplainsInJson, IsObjectOn, IsWitnessInJson, VerifiesInJson, WitnessesInJson};
+ghost use Rattle.report.specs.Details.{IsProvedOf};
 ghost use Rattle.report.specs.Verdict.{LeavesUnread};
 ghost use Rattle.report.specs.Witnessed.{IsWitnessedBy};
-ghost use Rattle.result_lines.specs.Objects.{IsObjectOf, line_of};
-ghost use Rattle.stream_io.specs.Faults.{IsStreamFault};
+ghost use Rattle.result_lines.specs.Objects.{line_of};
+ghost use Rattle.report.specs.Workers.{AreWorkers};
+ghost use Rattle.stream_io.specs.Faults.{IsCheckFault, IsStreamFault};
 ghost use Rattle.stream_io.specs.Written.{HasAnswer, HasPrefix};
 
 use crate::stopwatch::Stopwatch;
 use doc_register::Conflicts;
 use events::HashKeys;
 use report::{
-    Answer, Details, RulingOut, Status, StreamFault, Witnessed, status_of, verify_reported,
-    witness_details, write_answer,
+    Answer, CheckOptions, Details, ExplainedDetails, PageOptions, RulingOut, Status, StreamFault,
+    Witnessed, explained_details, status_of, verify_reported, witness_details, write_answer,
 };
 use result_lines::{Facts, Reported, object_line};
 use std::alloc::{AllocError, Global};
 use std::io::{Read, Write};
+use std::sync::Wait;
+use std::thread::Threads;
 use std::time::Clock;
 
-/// Returns the object of what was found in the text of this name.
-pub fn details_object(
+/// Returns the object of what was found in the text of this name, with what explains it, if that is asked for.
+pub fn details_object<'a>(
     alloc: Global,
-    name: &str,
+    name: &'a str,
     details: Details,
+    explanation: Option<&'a str>,
     milliseconds: Option<u64>,
 ) -> Result<Vec<u8>, AllocError>
-    ensures { IfOk result (λ text. IsObjectOf name.now (line_of details.reported) text.items) }
+    ensures { IfOk result (λ text. (conflicts : Reading) (input : Maybe (List ℕ))
+        → IfSome input (λ bytes. IsProvedOf conflicts bytes details.reported details.proved)
+        → IsObjectOn conflicts name.now input (line_of details.reported) text.items) }
 {
     let facts = Facts {
         file: name,
         witness: None,
         proved: details.proved,
         broken_reply: details.broken_reply,
+        explanation,
         milliseconds,
     };
     object_line(alloc, &details.reported, &facts)
@@ -60,7 +68,7 @@ fn witnessed_answer(
         }),
         Witnessed::Answered(details) => {
             let status = status_of(&details.reported);
-            let text = details_object(alloc, name, details, milliseconds)?;
+            let text = details_object(alloc, name, details, None, milliseconds)?;
             Ok(Answer { status, text })
         }
     }
@@ -98,28 +106,33 @@ pub fn witness_in_json<C: Clock, R: Read, W: Write>(
 }
 
 // Returns whether it is proved that an order explains the history, if that is answered.
-fn proved_of(reported: &Reported) -> Option<bool> {
+fn proved_of(reported: &Reported) -> Option<bool>
+    ensures { (conflicts : Reading) (input : List ℕ) → IsProvedOf conflicts input reported.now result }
+{
     match reported {
-        Reported::Verified(_) => Some(true),
-        _ => None,
+        Reported::Yes(_) | Reported::Verified(_) => Some(true),
+        Reported::No(_) | Reported::Refuted(..) | Reported::Broken(_) => None,
+        Reported::Refused(_) | Reported::RefusedHistory(_) | Reported::RefusedWitness(_) => None,
     }
 }
 
 // Returns the object of what was found of the two texts of these names.
-fn verified_object(
+fn verified_object<'a>(
     alloc: Global,
-    name: &str,
-    witness: &str,
+    name: &'a str,
+    witness: &'a str,
     reported: &Reported,
     milliseconds: Option<u64>,
 ) -> Result<Vec<u8>, AllocError>
-    ensures { IfOk result (λ text. IsObjectOf name.now (line_of reported.now) text.items) }
+    ensures { IfOk result (λ text. (conflicts : Reading) (input : List ℕ)
+        → IsObjectOn conflicts name.now (Just input) (line_of reported.now) text.items) }
 {
     let facts = Facts {
         file: name,
         witness: Some(witness),
         proved: proved_of(reported),
         broken_reply: None,
+        explanation: None,
         milliseconds,
     };
     object_line(alloc, reported, &facts)
@@ -165,4 +178,38 @@ pub fn verify_in_json<C: Clock, R: Read, Q: Read, W: Write>(
         stopwatch.milliseconds(clock),
     )?;
     write_answer(writer, &Answer { status, text })
+}
+
+/// Returns the object of what a check finds in the text of a reader, as `report::explained_details` does, with its
+/// explanation; and that as a page, if one is asked for. The text has this name. It has the same errors.
+pub fn explained_object<C: Clock, T: Threads + Wait + Sync, R: Read>(
+    clock: &C,
+    threads: &T,
+    alloc: Global,
+    keys: HashKeys,
+    name: &str,
+    history: &mut R,
+    options: CheckOptions,
+    shown: Option<PageOptions<'_>>,
+) -> Result<(Answer, Option<Vec<u8>>), StreamFault>
+    // There are 1 to 16 workers.
+    requires workers { AreWorkers options.workers }
+    // The object is that of a line which answers the bytes of the reader.
+    ensures answered { IfOk result (λ made. ExplainsInJson name.now options.ruling_out options.conflicts (R.remaining history.old)
+        made.0.status made.0.text.items) }
+    // The only errors are `Read`, `NoMemory` and `Worker`.
+    ensures reported { IfErr result IsCheckFault }
+{
+    let stopwatch = Stopwatch::start(clock);
+    let found = explained_details(threads, alloc, keys, history, options, shown)?;
+    let ExplainedDetails {
+        details,
+        explanation,
+        page,
+    } = found;
+    let status = status_of(&details.reported);
+    let milliseconds = stopwatch.milliseconds(clock);
+    let explanation = Some(explanation.as_str());
+    let text = details_object(alloc, name, details, explanation, milliseconds)?;
+    Ok((Answer { status, text }, page))
 }

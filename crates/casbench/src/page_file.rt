@@ -5,6 +5,7 @@
 ghost use Rattle.std.specs.Prelude.{◌≡◌, ◌⊎◌, IfErr};
 
 use crate::files::{Source, report_unopened};
+use crate::terminal::STANDARD_INPUT;
 use report::StreamFault;
 use std::alloc::Global;
 use std::fs::{self, Metadata, OpenFile, OpenOptions};
@@ -12,9 +13,6 @@ use std::io::{self, ErrorKind};
 use std::os::unix::fs::MetadataExt;
 use std::rt::Files;
 use stream_io::write_text;
-
-// The name by which the system knows which file standard input is.
-const STANDARD_INPUT: &str = "/dev/stdin";
 
 // The number of names that are tried for a new file.
 const NEW_NAMES: u32 = 100;

@@ -15,31 +15,30 @@ ghost use Rattle.disturbances.specs.declared.disturbance.Disturbance.{Disturbanc
 ghost use Rattle.casbench.specs.Each.{AnswersEach, AreOfFiles, Named, or_input};
 ghost use Rattle.casbench.specs.Faults.{MayFail};
 ghost use Rattle.casbench.specs.Objects.{WitnessesInJson};
-ghost use Rattle.casbench.specs.declared.form.Form.TheVariants.{Objects};
+ghost use Rattle.casbench.specs.declared.form.Form.TheVariants.{Lines, Objects};
 ghost use Rattle.std.proofs.Common.{Global, Vec};
 ghost use Rattle.command_line.specs.declared.page_request.PageRequest.{PageRequest as Page};
 ghost use Rattle.casbench.specs.Input.{names_input};
 ghost use Rattle.casbench.specs.Outcomes.{IsAnswerWith, IsJudged, status_of};
 ghost use Rattle.stream_io.specs.Faults.{IsWorkedFault};
+ghost use Rattle.stream_io.specs.declared.status.Status.TheVariants.{Yes};
 ghost use Rattle.stream_io.specs.Written.{HasAnswer, HasPrefix};
 
 use crate::check::check;
 use crate::check_each::check_each;
-use crate::files::{INPUT, open_both, open_each, open_each_or, open_or};
+use crate::explain::explain;
+use crate::files::{INPUT, open_both, open_each_or, open_or};
 use crate::form::Form;
 use crate::objects::{verify_in_json, witness_in_json};
 use crate::outcome::Outcome;
-use crate::page_file::{ReadyPage, refuse_history};
+use crate::page_file::refuse_history;
 use crate::search_reporter::SearchReporter;
-use command_line::{PageRequest, Request};
+use command_line::Request;
 use disturbances::DisturbedGroup;
 use doc_register::Conflicts;
 use events::HashKeys;
 use recorded_runs::{Playing, run_played_stream};
-use report::{
-    CheckOptions, PageOptions, RulingOut, Status, StreamFault, View, bulk_stream, explain_stream,
-    explained_page, verify_stream, witness_stream, write_answer,
-};
+use report::{CheckOptions, RulingOut, StreamFault, bulk_stream, verify_stream, witness_stream};
 use seed_search::search_stream;
 use std::alloc::Global;
 use std::io::{Read, Write};
@@ -63,69 +62,8 @@ fn options_of(workers: u64, conflicts: Conflicts, ruling_out: RulingOut) -> Chec
     }
 }
 
-// Returns what the page shows beside the explanation.
-fn page_options<'a>(file: Option<&'a str>, page: PageRequest<'a>) -> PageOptions<'a> {
-    PageOptions {
-        file: file.filter(|name| *name != INPUT),
-        view: page.drawn.map(|drawn| View {
-            document: drawn.document,
-            first: drawn.lines.first,
-            last: drawn.lines.last,
-        }),
-    }
-}
-
-// Checks a history and reports what was found; on a page too, if one is asked for, which takes its place when the
-// answer is written. `file` is the name of the history's file, if it has one.
-fn explain<F: Files + Eprint, T: Threads + Wait + Sync, R: Read, W: Write>(
-    rt: &F,
-    threads: &T,
-    alloc: Global,
-    keys: HashKeys,
-    file: Option<&str>,
-    history: &mut R,
-    writer: &mut W,
-    page: Option<PageRequest<'_>>,
-    options: CheckOptions,
-) -> Result<Status, StreamFault>
-    requires workers { AreWorkers options.workers }
-    ensures explained { IfOk result (λ status. HasAnswer (ExplainsInput options.ruling_out options.conflicts (R.remaining history.old) status)
-        (W.contents writer.old) (W.contents writer.new)) }
-    ensures cut_off { IsErrOf result StreamFault.Write
-        → HasPrefix (ExplainsInput options.ruling_out options.conflicts (R.remaining history.old)) (W.contents writer.old)
-        (W.contents writer.new) ⊎ Keeps (W.contents writer.old) (W.contents writer.new) }
-    ensures kept { IfErr result (λ fault. fault ≢ StreamFault.Write
-        → Keeps (W.contents writer.old) (W.contents writer.new)) }
-    ensures reported { IfErr result IsWorkedFault }
-{
-    let Some(page) = page else {
-        let CheckOptions {
-            workers,
-            conflicts,
-            ruling_out,
-        } = options;
-        return explain_stream(
-            threads, alloc, keys, history, writer, workers, conflicts, ruling_out,
-        );
-    };
-    let path = page.path;
-    let shown = page_options(file, page);
-    let (answer, page) = explained_page(threads, alloc, keys, history, options, shown)?;
-    let ready = ReadyPage::new(rt, alloc, path, &page)?;
-    match write_answer(writer, &answer) {
-        Ok(status) => {
-            ready.keep(rt, &page)?;
-            Ok(status)
-        }
-        Err(fault) => {
-            ready.discard(rt);
-            Err(fault)
-        }
-    }
-}
-
-// Checks the texts of the files, or of the input if there are none, and writes an object for each.
-fn check_in_json<R: Files + Eprint + Clock, T: Threads + Wait + Sync, I: Read + Drop, W: Write>(
+// Checks the texts of the files, or of the input if there are none, and writes the line or the object of each.
+fn check_files<R, T: Threads + Wait + Sync, I: Read + Send + Drop, W: Write>(
     rt: &R,
     threads: &T,
     alloc: Global,
@@ -135,26 +73,22 @@ fn check_in_json<R: Files + Eprint + Clock, T: Threads + Wait + Sync, I: Read + 
     writer: &mut W,
     options: CheckOptions,
     at_least: u64,
+    form: Form,
 ) -> Result<Outcome, StreamFault>
+where
+    R: Files + Eprint + Clock + Sync,
+    R::File: Send,
     requires workers { AreWorkers options.workers }
     ensures answered { IfOk result (λ outcome. (texts : List Named)
         × AreOfFiles (or_input (map (λ f. f.now) files.now)) (I.remaining input) texts
-        × HasAnswer (AnswersEach options.ruling_out options.conflicts at_least Objects texts outcome) (W.contents writer.old) (W.contents writer.new)) }
+        × HasAnswer (AnswersEach options.ruling_out options.conflicts at_least form texts outcome) (W.contents writer.old) (W.contents writer.new)) }
     ensures kept { IfErr result (λ fault. fault ≢ StreamFault.Write
         → Keeps (W.contents writer.old) (W.contents writer.new)) }
     ensures reported { IfErr result IsWorkedFault }
 {
     let texts = open_each_or(rt, alloc, files, input)?;
     check_each(
-        rt,
-        threads,
-        alloc,
-        keys,
-        texts,
-        writer,
-        options,
-        at_least,
-        Form::Objects,
+        rt, threads, alloc, keys, texts, writer, options, at_least, form,
     )
 }
 
@@ -164,15 +98,12 @@ fn check_in_json<R: Files + Eprint + Clock, T: Threads + Wait + Sync, I: Read + 
 ///
 /// Errors, in this order: `Read` if a file can't be opened, which is then named on standard error: nothing
 /// was read then; for an `explain` with a page `Write` if the page is the history's own file; then those of
-/// the command's stream: `check` or `check_each`, `witness_stream`, `verify_stream`, `bulk_stream`,
-/// `explain_stream`, `run_played_stream`, or `search_stream` with `--until`. An `explain` with a page has those of
-/// `explained_page`, then `Write` or `NoMemory` if a new page can't be written, `Write` of the writer, and
-/// `Write` if the page can't take its place. It waits as the stream of the command does.
+/// what does it: `check`, `check_each`, `witness_stream`, `verify_stream`, `bulk_stream`, `explain`,
+/// `run_played_stream`, or `search_stream` with `--until`. It waits as these do.
 ///
-/// `kept` and `reported` are the only clauses about a `verify`, a `bulk` and a check of several files: that
-/// their texts, and the reading of conflicts, are passed on to their streams and to `check_each` is tested, not
-/// proved.
-pub fn run<R: Files + Eprint + Clock, T: Threads + Wait + Sync, I: Read + Drop, W: Write>(
+/// `kept` and `reported` are the only clauses about a `verify`, a `bulk` and an `explain` in JSON: that their texts,
+/// and the reading of conflicts, are passed on to what does it is tested, not proved.
+pub fn run<R, T: Threads + Wait + Sync, I: Read + Send + Drop, W: Write>(
     alloc: Global,
     keys: HashKeys,
     rt: &R,
@@ -181,6 +112,9 @@ pub fn run<R: Files + Eprint + Clock, T: Threads + Wait + Sync, I: Read + Drop, 
     writer: &mut W,
     request: &Request<'_>,
 ) -> Result<Outcome, StreamFault>
+where
+    R: Files + Eprint + Clock + Sync,
+    R::File: Send,
     // A check of the input, which no name names, or `-`, answers it, with conflicts read as the arguments say.
     ensures checked { (file : Option (Bor (List ℕ))) (conflicts : Reading) (workers : ℕ) (ruling : Ruling) (least : ℕ)
         → request.now ≡ Request.Check file conflicts workers ruling least
@@ -199,6 +133,11 @@ pub fn run<R: Files + Eprint + Clock, T: Threads + Wait + Sync, I: Read + Drop, 
         → names_input (option_map (λ t. t.now) file) ≡ true
         → IfOk result (IsAnswerWith (λ status. HasAnswer (WitnessesInput ruling conflicts (I.remaining input) status)
         (W.contents writer.old) (W.contents writer.new))) }
+    // A check of several files writes a line for each, in their order, which answers its text behind its name.
+    ensures checked_each { (files : Vec (Bor (List ℕ)) Global) (conflicts : Reading) (workers : ℕ) (ruling : Ruling) (least : ℕ)
+        → request.now ≡ Request.CheckEach files conflicts workers ruling least
+        → IfOk result (λ outcome. (texts : List Named) × AreOfFiles (or_input (map (λ f. f.now) files.items)) (I.remaining input) texts
+        × HasAnswer (AnswersEach ruling conflicts least Lines texts outcome) (W.contents writer.old) (W.contents writer.new)) }
     // A check that answers in objects writes one for each file, in their order, whose members are those of the line
     // of its text; if no file is named it is one of the input.
     ensures checked_in_json { (files : Vec (Bor (List ℕ)) Global) (conflicts : Reading) (workers : ℕ) (ruling : Ruling) (least : ℕ)
@@ -219,7 +158,7 @@ pub fn run<R: Files + Eprint + Clock, T: Threads + Wait + Sync, I: Read + Drop, 
         (W.contents writer.old) (W.contents writer.new))) }
     // What the clients of a run recorded is written, and the status is yes.
     ensures recorded { (setting : Setting) (manner : Going) → request.now ≡ Request.Run setting manner
-        → IfOk result (λ outcome. (outcome ≡ Outcome.Answered Status.Yes) × HasAnswer (IsRunText ⟦<DisturbedGroup as Target>⟧.issued ⟦<DisturbedGroup as Target>⟧.gave setting)
+        → IfOk result (λ outcome. (outcome ≡ Outcome.Answered Yes) × HasAnswer (IsRunText ⟦<DisturbedGroup as Target>⟧.issued ⟦<DisturbedGroup as Target>⟧.gave setting)
         (W.contents writer.old) (W.contents writer.new)) }
     // In turns it is the text of exactly the run that the setting and the disturbance determine.
     ensures in_turns { (setting : Setting) (manner : Going) → request.now ≡ Request.Run setting manner
@@ -292,13 +231,13 @@ pub fn run<R: Files + Eprint + Clock, T: Threads + Wait + Sync, I: Read + Drop, 
             ruling_out,
             at_least,
         } => {
-            let texts = open_each(rt, alloc, files, input)?;
-            check_each(
+            check_files(
                 rt,
                 threads,
                 alloc,
                 keys,
-                texts,
+                files,
+                input,
                 writer,
                 options_of(workers, conflicts, ruling_out),
                 at_least,
@@ -312,7 +251,7 @@ pub fn run<R: Files + Eprint + Clock, T: Threads + Wait + Sync, I: Read + Drop, 
             ruling_out,
             at_least,
         } => {
-            check_in_json(
+            check_files(
                 rt,
                 threads,
                 alloc,
@@ -322,6 +261,7 @@ pub fn run<R: Files + Eprint + Clock, T: Threads + Wait + Sync, I: Read + Drop, 
                 writer,
                 options_of(workers, conflicts, ruling_out),
                 at_least,
+                Form::Objects,
             )
         }
         Request::Witness {
@@ -411,16 +351,42 @@ pub fn run<R: Files + Eprint + Clock, T: Threads + Wait + Sync, I: Read + Drop, 
         } => {
             let mut history = open_or(rt, file, input)?;
             refuse_history(rt, page.map(|page| page.path), &history)?;
+            let name = file.unwrap_or(INPUT);
             let status = explain(
                 rt,
                 threads,
                 alloc,
                 keys,
-                file,
+                name,
                 &mut history,
                 writer,
                 page,
                 options_of(workers, conflicts, ruling_out),
+                Form::Lines,
+            )?;
+            Ok(Outcome::Answered(status))
+        }
+        Request::ExplainInJson {
+            file,
+            conflicts,
+            workers,
+            ruling_out,
+            page,
+        } => {
+            let mut history = open_or(rt, file, input)?;
+            refuse_history(rt, page.map(|page| page.path), &history)?;
+            let name = file.unwrap_or(INPUT);
+            let status = explain(
+                rt,
+                threads,
+                alloc,
+                keys,
+                name,
+                &mut history,
+                writer,
+                page,
+                options_of(workers, conflicts, ruling_out),
+                Form::Objects,
             )?;
             Ok(Outcome::Answered(status))
         }

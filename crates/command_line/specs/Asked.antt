@@ -66,6 +66,8 @@ pub data Asked : Type 0 where
   ToSearch : ℕ → ℕ → RunSetting → Disturbance → Asked
   -- a check that is explained, with what a check has but the least number of calls, and with a page or none
   ToExplain : Option Text → Conflicts → ℕ → RulingOut → Option AskedPage → Asked
+  -- the same, answered in an object of JSON
+  ToExplainInJson : Option Text → Conflicts → ℕ → RulingOut → Option AskedPage → Asked
 
 -- the document that is drawn, as the code has it
 abbrev pub drawing_asked : Drawn → AskedDrawing
@@ -88,6 +90,7 @@ asked_by (request.Bulk body reply first) = ToWriteBulk body.now reply.now first
 asked_by (request.Run setting manner) = ToRun setting manner
 asked_by (request.Search seeds setting disturbance) = ToSearch seeds.first seeds.last setting disturbance
 asked_by (request.Explain file conflicts workers ruling page) = ToExplain (option_map (λ f. f.now) file) conflicts workers ruling (option_map page_asked page)
+asked_by (request.ExplainInJson file conflicts workers ruling page) = ToExplainInJson (option_map (λ f. f.now) file) conflicts workers ruling (option_map page_asked page)
 
 -- the reading of conflicts of this name, `plain` or `maybe`; the plain one if no name is given; nothing of
 -- another name
@@ -191,7 +194,7 @@ page_of rows = pages_of (first_of (codes "html") rows) (first_of (codes "documen
 -- the same for a check that is explained, without a least number, and with the page
 abbrev pub explain_of : List Row → Option Asked
 explain_of rows =
-    option_and_then (λ conflicts. option_and_then (λ n. option_map (λ page. ToExplain (first_of (codes "history") rows) conflicts n (ruling_given (first_of (codes "rule-out") rows)) page)
+    option_and_then (λ conflicts. option_and_then (λ n. option_map (λ page. (if flag_given (first_of (codes "json") rows) then ToExplainInJson else ToExplain) (first_of (codes "history") rows) conflicts n (ruling_given (first_of (codes "rule-out") rows)) page)
     (page_of rows)) (number_or 1 (first_of (codes "workers") rows))) (conflicts_named (first_of (codes "conflicts") rows))
 
 -- the witness that arguments ask for; nothing if the name of the reading is unknown
@@ -385,12 +388,17 @@ searched_command command texts = with_rule (with_rule (with_rule (with_rule comm
 abbrev pub check_command : App
 check_command = with_rule (with_rule (searched_command (new_app (codes "check")) (files_rule (codes "history"))) at_least_rule) json_rule
 
--- the command `explain`, which takes a history, which may be left out, what each check takes, `--html`,
--- `--document` and `--lines`
+-- the command `explain` with a history, which may be left out, what each check takes, and the options of a page:
+-- `--html`, `--document` and `--lines`
+-- Source: profile.
+abbrev pub page_line : App
+page_line =
+    with_rule (with_rule (with_rule (searched_command (new_app (codes "explain")) (file_rule (codes "history"))) (option_rule (codes "html"))) (option_rule (codes "document"))) (option_rule (codes "lines"))
+
+-- the command `explain`, which takes these and `--json`
 -- Source: profile.
 abbrev pub explain_command : App
-explain_command =
-    with_rule (with_rule (with_rule (searched_command (new_app (codes "explain")) (file_rule (codes "history"))) (option_rule (codes "html"))) (option_rule (codes "document"))) (option_rule (codes "lines"))
+explain_command = with_rule page_line json_rule
 
 -- the command `witness`, which takes a history, which may be left out, `--conflicts`, `--rule-out` and `--json`
 -- Source: profile.

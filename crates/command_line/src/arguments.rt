@@ -174,7 +174,7 @@ pub fn json<'a>(alloc: Global) -> Arg<'a>
     Arg::new(alloc, JSON)
         .long(JSON)
         .action(ArgAction::SetTrue)
-        .help("Write an object of JSON in place of each line")
+        .help("Write answers as objects of JSON")
 }
 
 /// Returns the option of the seed of a run, which is left out if several seeds are tried.

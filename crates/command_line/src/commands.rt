@@ -1,7 +1,7 @@
 ghost use Rattle.std.specs.Prelude.{◌≡◌, false, IfOk, codes};
 ghost use Rattle.clap.specs.Words.{app_of, new_app, rule_of, with_rule};
 ghost use Rattle.clap.specs.declared.builder.command.Command.TheViews.{out-Command as fields_of};
-ghost use Rattle.command_line.specs.Asked.{bulk_command, check_command, command_line, explain_command, group_line, manner_line, named_line, plan_line, run_command, searched_command, verify_command, witness_command};
+ghost use Rattle.command_line.specs.Asked.{bulk_command, check_command, command_line, explain_command, group_line, manner_line, named_line, page_line, plan_line, run_command, searched_command, verify_command, witness_command};
 
 use crate::arguments;
 use crate::arguments::{
@@ -116,8 +116,9 @@ fn bulk_command<'a>(alloc: Global) -> Result<Command<'a>, AllocError>
     with_argument(command, first(alloc))
 }
 
-fn explain_command<'a>(alloc: Global) -> Result<Command<'a>, AllocError>
-    ensures line { IfOk result (λ command. app_of command ≡ explain_command) }
+// Returns the command `explain` with the options of a page.
+fn page_command<'a>(alloc: Global) -> Result<Command<'a>, AllocError>
+    ensures line { IfOk result (λ command. app_of command ≡ page_line) }
     ensures local { IfOk result (λ command. (fields_of command).has_globals ≡ false) }
 {
     let command = Command::new(alloc, EXPLAIN)
@@ -132,6 +133,13 @@ fn explain_command<'a>(alloc: Global) -> Result<Command<'a>, AllocError>
     let command = with_argument(command, option(alloc, DOCUMENT, "ID", help))?;
     let help = "Draw no calls but those on the lines from A to B of the text";
     with_argument(command, option(alloc, LINES, "A-B", help))
+}
+
+fn explain_command<'a>(alloc: Global) -> Result<Command<'a>, AllocError>
+    ensures line { IfOk result (λ command. app_of command ≡ explain_command) }
+    ensures local { IfOk result (λ command. (fields_of command).has_globals ≡ false) }
+{
+    with_argument(page_command(alloc)?, json(alloc))
 }
 
 // Returns the command `run` without its arguments.

@@ -93,6 +93,14 @@ pub enum Request<'a> {
         ruling_out: RulingOut,
         page: Option<PageRequest<'a>>,
     },
+    /// To explain a history text in the same way, and to answer in an object of JSON.
+    ExplainInJson {
+        file: Option<&'a str>,
+        conflicts: Conflicts,
+        workers: u64,
+        ruling_out: RulingOut,
+        page: Option<PageRequest<'a>>,
+    },
 }
 
 // The readings of a conflict by their names.
@@ -246,13 +254,28 @@ fn bulk_request<'a>(given: &ArgMatches<'a>) -> Option<Request<'a>>
 fn explain_request<'a>(given: &ArgMatches<'a>) -> Option<Request<'a>>
     ensures { option_map asked_by result ≡ explain_of (rows_of (found_of given.now)) }
 {
-    Some(Request::Explain {
-        file: text_given(given, HISTORY),
-        conflicts: conflicts_named(text_given(given, CONFLICTS))?,
-        workers: number_or(1, text_given(given, WORKERS))?,
-        ruling_out: ruling_given(text_given(given, RULE_OUT)),
-        page: page_given(given)?,
-    })
+    let file = text_given(given, HISTORY);
+    let conflicts = conflicts_named(text_given(given, CONFLICTS))?;
+    let workers = number_or(1, text_given(given, WORKERS))?;
+    let ruling_out = ruling_given(text_given(given, RULE_OUT));
+    let page = page_given(given)?;
+    if is_given(text_given(given, JSON)) {
+        Some(Request::ExplainInJson {
+            file,
+            conflicts,
+            workers,
+            ruling_out,
+            page,
+        })
+    } else {
+        Some(Request::Explain {
+            file,
+            conflicts,
+            workers,
+            ruling_out,
+            page,
+        })
+    }
 }
 
 // Returns what the command of this name asks for.

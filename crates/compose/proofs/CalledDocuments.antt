@@ -7,7 +7,7 @@ use Rattle.doc_register.specs.declared.op.Op.{Op}
 use Rattle.events.specs.declared.event.Event.{Event}
 use Rattle.events.specs.declared.event.Event.TheVariants.{Call, Reply, Lost}
 use Rattle.events.specs.Events.{IsCallAt, IsHistory, documents_of, is_same, with_document, with_event}
-use Rattle.compose.specs.Covers.{IsOfShard}
+use Rattle.covers.specs.Covers.{IsOfShard}
 use Rattle.version_pair.proofs.ListLemmas.{none_is_not_some, same_some}
 
 -- ---- one more document

@@ -28,7 +28,7 @@ use Rattle.places.specs.Places.{AreValid}
 use Rattle.compose.specs.Certainties.{IsDocumentOf, IsWithoutOrder, Says, SaysOfCall}
 use Rattle.compose.specs.Laws.{IsComplete}
 use Rattle.compose.specs.Verdicts.{HasNoOrderFound}
-use Rattle.compose.proofs.ListedDocuments.{documents_apart}
+use Rattle.covers.proofs.ListedDocuments.{documents_apart}
 use Rattle.compose.proofs.VerifyLemmas.{document_found, document_none}
 use Rattle.compose.specs.aids.Complete.{IsCompleteEvent}
 use Rattle.compose.proofs.Restriction.{orders_are_covers}

@@ -12,9 +12,8 @@ use Rattle.events.proofs.HistoryLemmas.{call_at}
 use Rattle.places.specs.Documents.{DocPlaces, witness_places}
 use Rattle.places.specs.Witness.{Witness}
 use Rattle.compose.specs.Counts.{calls_of}
-use Rattle.compose.specs.Covers.{AreCover}
+use Rattle.covers.specs.Covers.{AreCover, AreWitnesses}
 use Rattle.compose.specs.Laws.{places_in}
-use Rattle.compose.specs.Verdicts.{AreWitnesses}
 use Rattle.compose.proofs.Filtering.{rank, rank_at, rank_once}
 use Rattle.compose.proofs.Locality.{covers_explain}
 use Rattle.compose.proofs.Points.{call_place, called_there}

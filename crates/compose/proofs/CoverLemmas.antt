@@ -18,12 +18,12 @@ use Rattle.places.specs.Places.{AreValid}
 use Rattle.places.specs.Laws.{ArePlacedBy, SaysOfEntry}
 use Rattle.places.specs.Documents.{DocPlaces}
 use Rattle.places.proofs.DocumentLaws.{places_are_orders, reports_of}
-use Rattle.compose.specs.Covers.{AreCover, ArePairsDistinct, IsEntered, IsTakenAt}
+use Rattle.covers.specs.Covers.{AreCover, ArePairsDistinct, IsEntered, IsTakenAt}
 use Rattle.events.specs.Heard.{taken_by}
 use Rattle.compose.specs.Laws.{restricted}
 use Rattle.ruled_out.proofs.OrderedSteps.{mapped_at}
 use Rattle.compose.proofs.CalledDocuments.{shard_of_call}
-use Rattle.compose.proofs.ListedDocuments.{documents_apart}
+use Rattle.covers.proofs.ListedDocuments.{documents_apart}
 use Rattle.compose.proofs.RestrictedOrders.{restricted_change, restricted_explains, restricted_from, restricted_once}
 
 -- ---- places and what stands in the order

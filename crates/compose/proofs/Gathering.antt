@@ -14,7 +14,7 @@ use Rattle.places.specs.Places.{AreValid}
 use Rattle.places.specs.Documents.{DocPlaces}
 use Rattle.places.proofs.DocumentLaws.{places_are_orders}
 use Rattle.places.proofs.PlaceLemmas.{placed_length}
-use Rattle.compose.specs.Covers.{IsEntered}
+use Rattle.covers.specs.Covers.{IsEntered}
 use Rattle.compose.specs.Laws.{places_in}
 use Rattle.compose.proofs.Filtering.{filter_all, filter_none, in_either}
 use Rattle.compose.proofs.Points.{IsReached, Pointed, call_place, is_of, part, place_before, placed_at, placed_of, pointed, pointed_placed, pointed_rising, reached}

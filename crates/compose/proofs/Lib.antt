@@ -1,4 +1,3 @@
-mod ListedDocuments
 mod RestrictedOrders
 mod CoverLemmas
 mod UnorderedLemmas
@@ -12,17 +11,10 @@ mod CalledDocuments
 mod Standing
 mod WholeRun
 mod Locality
-mod TakenLemmas
-mod TwiceMoved
-mod TwiceSorted
-mod FlatPlaces
-mod TakenPlaces
-mod SearchedLemmas
 pub mod CountedPlaces
 mod PositionLemmas
 mod VerifyLemmas
 mod FoundLemmas
-mod Yielded
 mod VerdictLemmas
 mod WorkerLemmas
 mod FaultLaws
@@ -33,4 +25,3 @@ mod ShardMerge
 mod ShardLocality
 mod OffenceLemmas
 mod CertaintyLemmas
-mod CoveringLemmas

@@ -14,7 +14,7 @@ use Rattle.events.proofs.HistoryLemmas.{answered_call, call_passes}
 use Rattle.version_pair.proofs.ListLemmas.{same_some}
 use Rattle.places.specs.Laws.{ArePlacedBy}
 use Rattle.places.specs.Documents.{DocPlaces}
-use Rattle.compose.specs.Covers.{AreCover, IsEntered}
+use Rattle.covers.specs.Covers.{AreCover, IsEntered}
 use Rattle.compose.specs.Laws.{CoversExplain, IsOrderOf}
 use Rattle.compose.proofs.CalledDocuments.{call_document}
 use Rattle.compose.proofs.Filtering.{rank, rank_at, rank_once}

@@ -3,6 +3,7 @@ use Rattle.std.proofs.Common.{ℕ, ◌≡◌, ◌<◌, ◌≤◌, ◌+◌, ◌-�
 use Rattle.std.proofs.lemmas.Bool.{cases_lt}
 use Rattle.std.proofs.lemmas.Option.{slice_get_within}
 use Rattle.doc_register.specs.declared.reply.Reply.{Reply as Answer}
+use Rattle.doc_register.specs.declared.state.Conflicts.{Conflicts}
 use Rattle.doc_register.specs.Run.{start}
 use Rattle.events.specs.declared.event.Event.{Event}
 use Rattle.events.specs.declared.event.Event.TheVariants.{Call, Reply, Lost}
@@ -10,7 +11,10 @@ use Rattle.events.specs.Events.{IsHistory, IsReplyAt, prefix}
 use Rattle.events.specs.Order.{IsLegalInResponseOrder}
 use Rattle.events.specs.Laws.{LateCallsChangeNothing}
 use Rattle.version_pair.proofs.ListLemmas.{get_front, get_snoc, none_is_not_some}
-use Rattle.compose.specs.aids.Replies.{AreReplies, IsReplyPlace, IsWrongFrom, places_with}
+use Rattle.compose.specs.aids.Replies.{AreReplies, IsReplyPlace, IsWrongFrom, IsWrongUnlessFound, places_with}
+use Rattle.compose.specs.aids.Searched.{IsSearchOutcome}
+use Rattle.compose.specs.declared.checking.SearchOutcome.{SearchOutcome}
+use Rattle.compose.specs.declared.checking.SearchOutcome.TheVariants.{Found as Explained, NotFound as Unexplained}
 
 -- one event more that is no reply
 passed_over : (events : List Event) (n : ℕ) (places : List ℕ) → AreReplies events n places → (IsReplyPlace events n → ⊥) → AreReplies events (n + 1) places
@@ -81,3 +85,8 @@ some_reply events [] late history are wrong = absurd (wrong (late events 0 histo
 
   nothing : IsLegalInResponseOrder (prefix events 0)
   nothing = (start, refl)
+
+-- events for which no order is found are not legal in response order
+pub outcome_wrong : (conflicts : Conflicts) (events : List Event) (p : ℕ) (found : SearchOutcome) → IsSearchOutcome conflicts (prefix events (p + 1)) found → IsWrongUnlessFound events p found
+outcome_wrong conflicts events p Explained is = tt
+outcome_wrong conflicts events p (Unexplained place) is = is.not_right

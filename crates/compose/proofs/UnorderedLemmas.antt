@@ -17,7 +17,8 @@ use Rattle.ruled_out.proofs.PlacingLaws.{ordered_are_not_ruled_out}
 use Rattle.evidence.specs.Evidence.{AreDocuments, ListsRuledOut}
 use Rattle.doc_check.specs.declared.search.DocAnswer.{DocAnswer}
 use Rattle.doc_check.specs.declared.search.DocAnswer.TheVariants.{Found, NotFound}
-use Rattle.compose.specs.aids.Searched.{AreAnswersFor, AreUnordered, IsAnswerFor}
+use Rattle.covers.specs.Answered.{AreAnswersFor, IsAnswerFor}
+use Rattle.compose.specs.aids.Searched.{AreUnordered}
 
 -- an order of a document's calls alone
 explains_within : (conflicts : Conflicts) (events : List Event) (d : List ℕ) (order : List Placed) → ExplainsDocument conflicts events d order → ExplainsWithin conflicts events d order

@@ -8,8 +8,8 @@ use Rattle.places.specs.Documents.{witness_places}
 use Rattle.places.specs.Witness.{Witness}
 use Rattle.compose.specs.Counts.{calls_of}
 use Rattle.compose.specs.Laws.{places_in}
-use Rattle.compose.specs.Covers.{HasNoUnpairedCover}
-use Rattle.compose.specs.Verdicts.{AreCounts, AreWitnesses, HasNoOrderFound, HasOrder}
+use Rattle.covers.specs.Covers.{AreWitnesses, HasNoUnpairedCover}
+use Rattle.compose.specs.Verdicts.{AreCounts, HasNoOrderFound, HasOrder}
 use Rattle.compose.proofs.CountedPlaces.{places_within}
 use Rattle.compose.proofs.Locality.{covers_explain}
 use Rattle.compose.proofs.Restriction.{legal_in_response_order_are_covered, complete_have_no_order}

@@ -14,15 +14,14 @@ use Rattle.version_pair.proofs.ListLemmas.{get_front, get_last, get_middle, get_
 use Rattle.places.specs.Documents.{DocPlaces, witness_places}
 use Rattle.places.specs.Places.{AreValid}
 use Rattle.places.specs.Witness.{Witness}
-use Rattle.compose.specs.Covers.{AreComplete, AreCover, ArePairsDistinct, AreValidEntries, IsEntered, IsKnown, IsOfShard}
-use Rattle.compose.specs.VerifyFaults.{IsAtEntry, IsFirstVerifyFault, IsTakenTwice}
-use Rattle.compose.specs.Verdicts.{AreWitnesses}
-use Rattle.compose.specs.aids.Taken.{IsLeastTwice, pairs_taken}
+use Rattle.covers.specs.Covers.{AreComplete, AreCover, ArePairsDistinct, AreValidEntries, AreWitnesses, IsEntered, IsKnown, IsOfShard, IsTakenTwice}
+use Rattle.compose.specs.VerifyFaults.{IsAtEntry, IsFirstVerifyFault}
+use Rattle.shard_numbers.specs.Taken.{IsLeastTwice, pairs_taken}
 use Rattle.compose.specs.aids.Verified.{AreVerified, IsFaultOfDocument, IsFaultOfEntry, IsOpen, IsWitnessAt}
 use Rattle.compose.specs.declared.verify_fault.VerifyFault.{VerifyFault}
 use Rattle.compose.specs.declared.verify_fault.VerifyFault.TheVariants as fault
-use Rattle.compose.proofs.ListedDocuments.{documents_apart}
-use Rattle.compose.proofs.TakenPlaces.{AreOwn, taken_twice, twice_taken}
+use Rattle.covers.proofs.ListedDocuments.{documents_apart}
+use Rattle.covers.proofs.TakenPlaces.{AreOwn, taken_twice, twice_taken}
 use Rattle.compose.proofs.PositionLemmas.{position_found, position_none}
 
 -- ---- the document of an id

@@ -1,6 +1,5 @@
 -- The gathered calls as a run: each document's part is a run of it alone, and no pair of a shard is taken twice.
 use Rattle.std.proofs.Common.{ℕ, zero, suc, ◌≡◌, List, [], ◌∷◌, refl, sym, ap, subst, ◌∙◌, Option, Some, None, slice_get}
-use Rattle.std.specs.Prelude.{option_map}
 use Rattle.std.specs.Cmp.Lexicographic.{bytes_decides}
 use Rattle.version_pair.specs.declared.pair.Pair.{Pair}
 use Rattle.doc_register.specs.declared.reply.Reply.{Reply as Answer}
@@ -16,8 +15,9 @@ use Rattle.version_pair.proofs.ListLemmas.{none_is_not_some, same_some}
 use Rattle.places.specs.Laws.{SaysOfEntry}
 use Rattle.places.specs.Documents.{DocPlaces}
 use Rattle.places.proofs.DocumentLaws.{reported_by}
-use Rattle.compose.specs.Covers.{AreCover, IsOfShard, IsTakenAt}
+use Rattle.covers.specs.Covers.{AreCover, IsOfShard, IsTakenAt}
 use Rattle.events.specs.Heard.{taken_by}
+use Rattle.covers.proofs.TakenPlaces.{taken_parts}
 use Rattle.compose.proofs.CalledDocuments.{document_called}
 use Rattle.compose.proofs.Filtering.{filter_all, part_from, rank, rank_once}
 use Rattle.compose.proofs.Gathering.{AreGathered, IsPartOf}
@@ -49,13 +49,6 @@ taken_by_call : (ks : List Pointed) (i : ℕ) (q : ℕ × Pair) → taken_at (ru
 taken_by_call [] i q takes = absurd (none_is_not_some q takes)
 taken_by_call (k ∷ ks) zero q takes = (k, refl, takes)
 taken_by_call (k ∷ ks) (suc i) q takes = taken_by_call ks i q takes
-
--- a pair with its shard, half by half
-pub taken_parts : (shard : ℕ) (o : Option Pair) (q : ℕ × Pair) → option_map (λ p. (shard, p)) o ≡ Some q → (shard ≡ q.0) × (o ≡ Some q.1)
-taken_parts shard None q takes = absurd (none_is_not_some q takes)
-taken_parts shard (Some p) q takes =
-    let same : (shard, p) ≡ q = same_some (shard, p) q takes in
-    (ap (λ (x : ℕ × Pair). x.0) same, ap (λ (x : ℕ × Pair). Some x.1) same)
 
 -- a place says which pair the call there takes
 reported_pair : (heard : Option (ℕ × Answer)) (given : Option Pair) (e : Entry) (q : Pair) → SaysOfEntry heard given e → pair_taken e.reply e.hidden ≡ Some q → taken_by heard given ≡ Some q

@@ -14,7 +14,7 @@ use Rattle.check_pool.specs.Faults.{NamesJob}
 use Rattle.check_pool.specs.declared.doc_job.DocJob.{DocJob}
 use Rattle.check_pool.specs.declared.pool_fault.PoolFault.{PoolFault}
 use Rattle.check_pool.specs.declared.pool_fault.PoolFault.TheVariants.{NoWorkers, TooMany, Lost, Double, Stranger, NoMemory}
-use Rattle.compose.specs.aids.Searched.{AreAnswersFor, IsAnswerFor}
+use Rattle.covers.specs.Answered.{AreAnswersFor, IsAnswerFor}
 use Rattle.compose.specs.aids.Worked.{AreJobsFor, IsJobFor, IsJobOf, IsWorkersFault}
 
 jobs_snoc : (conflicts : Conflicts) (events : List Event) (ds : List (List ℕ × ℕ)) (jobs : List DocJob) (d : List ℕ × ℕ) (job : DocJob) → AreJobsFor conflicts events ds jobs

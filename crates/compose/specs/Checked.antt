@@ -4,7 +4,8 @@ use Rattle.doc_register.specs.declared.state.Conflicts.{Conflicts}
 use Rattle.events.specs.declared.event.Event.{Event}
 use Rattle.events.specs.Events.{documents_of}
 use Rattle.events.specs.Order.{IsLinearizable}
-use Rattle.compose.specs.Verdicts.{AreWitnesses, HasNoOrderFound}
+use Rattle.covers.specs.Covers.{AreWitnesses}
+use Rattle.compose.specs.Verdicts.{HasNoOrderFound}
 use Rattle.check_pool.specs.declared.pool_fault.PoolFault.TheVariants as pool_fault
 use Rattle.compose.specs.declared.checking.CheckFault.{CheckFault}
 use Rattle.compose.specs.declared.checking.CheckFault.TheVariants as check_fault

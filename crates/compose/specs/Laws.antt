@@ -13,7 +13,7 @@ use Rattle.events.specs.Events.{IsCallAt, IsHistory, IsReplyAt, heard_of, is_sam
 use Rattle.events.specs.Order.{Explains, IsLinearizable, IsLegalInResponseOrder, Placed}
 use Rattle.places.specs.Laws.{ArePlacedBy}
 use Rattle.places.specs.Documents.{DocPlaces}
-use Rattle.compose.specs.Covers.{AreAllUnpaired, AreCover, HasNoUnpairedCover, IsEntered}
+use Rattle.covers.specs.Covers.{AreAllUnpaired, AreCover, HasNoUnpairedCover, IsEntered}
 use Rattle.compose.specs.VerifyFaults.{IsFirstVerifyFault}
 use Rattle.compose.specs.declared.verify_fault.VerifyFault.{VerifyFault}
 

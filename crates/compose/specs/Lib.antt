@@ -1,5 +1,4 @@
 pub mod Counts
-pub mod Covers
 pub mod VerifyFaults
 pub mod Laws
 pub mod Verdicts

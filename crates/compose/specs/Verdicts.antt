@@ -1,22 +1,14 @@
 -- What a verdict on a history keeps.
-use Rattle.std.specs.Prelude.{◌≡◌, ◌+◌, ◌-◌, ℕ, List, Some, length, map, slice_get}
+use Rattle.std.specs.Prelude.{◌≡◌, ◌+◌, ◌-◌, ℕ, List, length, map}
 use Rattle.doc_register.specs.declared.state.Conflicts.{Conflicts}
 use Rattle.events.specs.declared.event.Event.{Event}
-use Rattle.events.specs.Events.{documents_of, records_of}
+use Rattle.events.specs.Events.{documents_of}
 use Rattle.events.specs.Order.{Explains, IsLinearizable, IsLegalInResponseOrder, Placed}
 use Rattle.places.specs.Documents.{DocPlaces, witness_places}
 use Rattle.places.specs.Witness.{Witness}
 use Rattle.compose.specs.Counts.{calls_of}
-use Rattle.compose.specs.Covers.{AreCover, HasNoUnpairedCover}
+use Rattle.covers.specs.Covers.{HasNoUnpairedCover}
 use Rattle.compose.specs.Laws.{IsComplete, places_in}
-
--- The witnesses are those of the history.
--- Source: profile.
-pub record AreWitnesses (conflicts : Conflicts) (events : List Event) (ws : List Witness) : Type 0 where
-  -- each carries the records of its document in the history, and the reading of conflicts
-  pub own : (i : ℕ) (w : Witness) → slice_get ws i ≡ Some w → (w.records ≡ records_of events w.doc) × (w.conflicts ≡ conflicts)
-  -- as entries they cover the history
-  pub cover : AreCover conflicts events (map witness_places ws)
 
 -- How contracts see a `Proof`: a history with the witnesses of its documents, and how a conflict is read. The
 -- type of the code keeps that the events are a history and that the witnesses cover it (`AreWitnesses`).

@@ -1,13 +1,13 @@
 -- The first fault of entries that do not cover a history.
-use Rattle.std.specs.Prelude.{◌≡◌, ◌<◌, ◌⊎◌, ℕ, List, Some, slice_get, take}
+use Rattle.std.specs.Prelude.{◌≡◌, ◌<◌, ℕ, List, Some, slice_get, take}
 use Rattle.version_pair.specs.declared.pair.Pair.{Pair}
-use Rattle.version_pair.specs.PairOrder.{IsBelow}
 use Rattle.doc_register.specs.declared.state.Conflicts.{Conflicts}
 use Rattle.events.specs.declared.event.Event.{Event}
 use Rattle.events.specs.Events.{documents_of, records_of}
 use Rattle.places.specs.Faults.{IsFirstFault}
 use Rattle.places.specs.Documents.{DocPlaces}
-use Rattle.compose.specs.Covers.{AreComplete, AreValidEntries, IsEntered, IsKnown, IsTakenAt}
+use Rattle.shard_numbers.specs.Taken.{IsAtMost}
+use Rattle.covers.specs.Covers.{AreComplete, AreValidEntries, IsEntered, IsKnown, IsTakenTwice}
 use Rattle.compose.specs.declared.verify_fault.VerifyFault.{VerifyFault}
 use Rattle.compose.specs.declared.verify_fault.VerifyFault.TheVariants as fault
 
@@ -17,23 +17,6 @@ pub record IsAtEntry (conflicts : Conflicts) (events : List Event) (entries : Li
   pub here : slice_get entries i ≡ Some e
   -- those before it are fine
   pub fine : AreValidEntries conflicts events (take i entries)
-
--- the pair of the shard is taken at two places
-pub record IsTakenTwice (events : List Event) (entries : List DocPlaces) (h : ℕ) (q : Pair) : Type 0 where
-  pub entry : ℕ
-  pub place : ℕ
-  pub other_entry : ℕ
-  pub other_place : ℕ
-  -- the pair is taken at a place
-  pub one : IsTakenAt events entries entry place h q
-  -- it is taken at another place
-  pub other : IsTakenAt events entries other_entry other_place h q
-  -- the two places are not the same
-  pub apart : (entry ≡ other_entry) × (place ≡ other_place) → ⊥
-
--- the first shard is below the second, or it is the same and the first pair is not above the second
-abbrev pub IsAtMost : ℕ → Pair → ℕ → Pair → Type 0
-IsAtMost h q g p = (h < g) ⊎ ((h ≡ g) × ((q ≡ p) ⊎ IsBelow q p))
 
 -- The fault holds, and no fault that is reported before it. The order is: entry by entry DocStranger, a
 -- document that the history lacks, DocTwice, one that was entered before, and Broken, the first fault of its

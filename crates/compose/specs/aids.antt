@@ -1,6 +1,4 @@
-pub mod Taken
 pub mod Searched
-pub mod Joined
 pub mod Worked
 pub mod Verified
 pub mod Replies

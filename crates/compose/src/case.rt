@@ -1,6 +1,6 @@
 ghost use Rattle.std.specs.Prelude.{◌≡◌};
 ghost use Rattle.events.specs.Events.{IsHistory};
-ghost use Rattle.compose.specs.Covers.{HasNoUnpairedCover};
+ghost use Rattle.covers.specs.Covers.{HasNoUnpairedCover};
 ghost use Rattle.compose.specs.Verdicts.{HasNoOrderFound};
 ghost use Rattle.evidence.specs.Evidence.{AreDocuments, ListsRuledOut};
 
@@ -26,7 +26,7 @@ pub struct Case {
 
 impl Model for Case {
     ghost use Rattle.events.specs.Events.{IsHistory};
-    ghost use Rattle.compose.specs.Covers.{HasNoUnpairedCover};
+    ghost use Rattle.covers.specs.Covers.{HasNoUnpairedCover};
     ghost use Rattle.compose.specs.Verdicts.{Unproven};
     ghost use Rattle.evidence.specs.Evidence.{AreDocuments, ListsRuledOut};
 

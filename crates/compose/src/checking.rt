@@ -4,15 +4,15 @@ ghost use Rattle.events.specs.Order.{IsLinearizable, IsLegalInResponseOrder};
 ghost use Rattle.compose.specs.Checked.{HandsBack, IsVerdictOn, IsYes, NamesDocument};
 ghost use Rattle.compose.specs.declared.checking.CheckFault.TheVariants.{NoMemory as Unchecked, Pool as Unpooled};
 ghost use Rattle.compose.specs.Verdicts.{HasNoOrderFound};
-ghost use Rattle.compose.specs.aids.Joined.{IsSearchOutcome};
-ghost use Rattle.compose.specs.aids.Searched.{AreAnswersFor, AreUnordered};
+ghost use Rattle.compose.specs.aids.Searched.{AreUnordered, IsSearchOutcome};
+ghost use Rattle.covers.specs.Answered.{AreAnswersFor};
 
 use crate::case::Case;
-use crate::covering::{Covering, cover_answers};
 use crate::found::answers_found;
 use crate::proof::Proof;
 use crate::workers::answers_of_workers;
 use check_pool::{Gate, PoolFault, check_workers};
+use covers::{Covering, cover_answers};
 use doc_check::DocAnswer;
 use doc_register::Conflicts;
 use events::{Front, History};

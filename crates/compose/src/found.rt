@@ -1,6 +1,7 @@
 ghost use Rattle.std.specs.Prelude.{◌<◌, IfOk, length, true};
 ghost use Rattle.events.specs.Events.{documents_of};
-ghost use Rattle.compose.specs.aids.Searched.{AnswersDocument, AreAnswersFor};
+ghost use Rattle.compose.specs.aids.Searched.{AnswersDocument};
+ghost use Rattle.covers.specs.Answered.{AreAnswersFor};
 
 use doc_check::{DocAnswer, answer};
 use doc_register::Conflicts;

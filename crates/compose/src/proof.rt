@@ -1,7 +1,8 @@
 ghost use Rattle.std.specs.Prelude.{◌≡◌};
 ghost use Rattle.events.specs.Events.{IsHistory};
 ghost use Rattle.events.specs.Order.{IsLinearizable};
-ghost use Rattle.compose.specs.Verdicts.{AreWitnesses, left_out_of};
+ghost use Rattle.covers.specs.Covers.{AreWitnesses};
+ghost use Rattle.compose.specs.Verdicts.{left_out_of};
 
 use crate::counts::Counts;
 use doc_register::Conflicts;
@@ -23,7 +24,8 @@ pub struct Proof {
 
 impl Model for Proof {
     ghost use Rattle.events.specs.Events.{IsHistory};
-    ghost use Rattle.compose.specs.Verdicts.{AreWitnesses, Proven};
+    ghost use Rattle.covers.specs.Covers.{AreWitnesses};
+    ghost use Rattle.compose.specs.Verdicts.{Proven};
 
     ghost Value = { Proven };
 

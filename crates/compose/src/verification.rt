@@ -3,17 +3,16 @@ ghost use Rattle.doc_register.specs.declared.state.Conflicts.{Conflicts as Readi
 ghost use Rattle.events.specs.Events.{documents_of};
 ghost use Rattle.places.specs.Documents.{DocPlaces, doc_places, witness_places};
 ghost use Rattle.compose.specs.VerifyFaults.{IsFirstVerifyFault};
-ghost use Rattle.compose.specs.Verdicts.{AreWitnesses};
-ghost use Rattle.compose.specs.Covers.{AreCover};
+ghost use Rattle.covers.specs.Covers.{AreCover, AreWitnesses};
 ghost use Rattle.compose.specs.aids.Verified.{AreVerified, IsFaultOfDocument, IsFaultOfEntry, IsFaultOfPlaces, IsOpen, IsWitnessAt};
 ghost use Rattle.compose.specs.declared.verify_fault.VerifyFault.TheVariants.{NoMemory as Unverified};
 
 use crate::proof::Proof;
-use crate::taken::pair_twice;
 use crate::verify_fault::VerifyFault;
 use doc_register::Conflicts;
 use events::History;
 use places::{Broken, DocWitness, Place};
+use shard_numbers::pair_twice;
 use std::alloc::Global;
 use version_pair::{DocId, NoMemory};
 

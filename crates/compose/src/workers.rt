@@ -1,7 +1,7 @@
 ghost use Rattle.std.specs.Prelude.{◌≡◌, ◌<◌, ◌≤◌, IfErr, IfOk, length, true};
 ghost use Rattle.events.specs.Events.{documents_of};
 ghost use Rattle.check_pool.specs.Answers.{AreNumbered};
-ghost use Rattle.compose.specs.aids.Searched.{AreAnswersFor};
+ghost use Rattle.covers.specs.Answered.{AreAnswersFor};
 ghost use Rattle.compose.specs.aids.Worked.{AreJobsFor, IsJobOf, IsWorkersFault};
 
 use check_pool::{DocJob, Gate, PoolFault, answers};

@@ -14,7 +14,7 @@ use Rattle.places.specs.Documents.{doc_places, witness_places}
 use Rattle.places.specs.declared.place.Place.{Place}
 use Rattle.witness.specs.Text.{AreWithinLimits, witness_text}
 use Rattle.places.specs.Witness.{Witness}
-use Rattle.compose.specs.Covers.{AreCover}
+use Rattle.covers.specs.Covers.{AreCover, AreWitnesses}
 use Rattle.evidence.specs.Evidence.{Holds, IsOfCalls, IsReported, IsWithoutRuledOut}
 use Rattle.evidence.specs.declared.refuted.Refuted.{Refuted as Evidence}
 use Rattle.evidence.specs.declared.refuted.Refuted.TheVariants as evidence
@@ -22,7 +22,7 @@ use Rattle.evidence.specs.declared.certainty.Certainty.{Certainty}
 use Rattle.evidence.specs.declared.ruling_out.RulingOut.{RulingOut}
 use Rattle.evidence.specs.declared.ruling_out.RulingOut.TheVariants.{On}
 use Rattle.compose.specs.Certainties.{Says}
-use Rattle.compose.specs.Verdicts.{AreWitnesses, HasNoOrderFound, Unproven}
+use Rattle.compose.specs.Verdicts.{HasNoOrderFound, Unproven}
 use Rattle.compose.specs.VerifyFaults.{IsFirstVerifyFault}
 use Rattle.compose.specs.declared.verify_fault.VerifyFault.{VerifyFault}
 use Rattle.compose.specs.Offences.{IsOffence}

@@ -13,8 +13,9 @@ use Rattle.result_lines.specs.declared.reported.Reported.{Reported}
 use Rattle.stream_io.specs.declared.status.Status.{Status}
 use Rattle.stream_io.specs.declared.status.Status.TheVariants.{Yes, No, Refuted}
 use Rattle.report.specs.Calls.{CountsCalls}
-use Rattle.report.specs.Details.{IsProvedOf, IsReportOf, calls_reported, status_of}
+use Rattle.report.specs.Details.{IsProvedOf, calls_reported, status_of}
 use Rattle.report.specs.Findings.{SaysFailing}
+use Rattle.report.specs.aids.Reports.{IsReportOf}
 use Rattle.report.specs.Verdict.{IsAnswer, IsWitnessAnswer}
 
 -- what is reported of a history without an order is what its line says

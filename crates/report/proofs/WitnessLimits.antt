@@ -14,9 +14,8 @@ use Rattle.places.specs.Documents.{DocPlaces, witness_places}
 use Rattle.witness.specs.Text.{AreWithinLimits, items_in}
 use Rattle.places.specs.Witness.{Witness}
 use Rattle.places.proofs.PlaceLemmas.{small_records}
-use Rattle.compose.specs.Covers.{AreValidEntries, IsKnown}
+use Rattle.covers.specs.Covers.{AreValidEntries, AreWitnesses, IsKnown}
 use Rattle.compose.specs.Laws.{places_in}
-use Rattle.compose.specs.Verdicts.{AreWitnesses}
 use Rattle.compose.proofs.CountedPlaces.{places_within}
 
 -- ---- no more documents than events

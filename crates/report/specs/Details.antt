@@ -1,14 +1,9 @@
 -- What is reported of a text, piece by piece.
 use Rattle.std.specs.Prelude.{◌≡◌, ℕ, Bool, true, List, Option, Some, None}
-use Rattle.doc_register.specs.declared.op.Op.{Op}
 use Rattle.doc_register.specs.declared.state.Conflicts.{Conflicts}
 use Rattle.events.specs.declared.event.Event.{Event}
-use Rattle.events.specs.Events.{IsCallAt}
 use Rattle.events.specs.Order.{IsLinearizable}
-use Rattle.evidence.specs.declared.refuted.Refuted.{Refuted as Evidence}
 use Rattle.history.specs.Text.{IsHistoryText}
-use Rattle.compose.specs.declared.offence.Offence.{Offence}
-use Rattle.result_lines.specs.declared.facts.BrokenReply.{BrokenReply}
 use Rattle.result_lines.specs.declared.reported.Reported.{Reported}
 use Rattle.result_lines.specs.declared.reported.Reported.TheVariants as reported
 use Rattle.stream_io.specs.declared.status.Status.{Status}
@@ -38,11 +33,6 @@ calls_reported (reported.RefusedHistory f) = None
 calls_reported (reported.RefusedWitness f) = None
 calls_reported (reported.Broken f) = None
 
--- what is reported of a history for which no order was found: the offence, with the evidence if there is some
-abbrev pub IsReportOf : Offence → Option Evidence → Reported → Type 0
-IsReportOf offence None said = said ≡ reported.No offence
-IsReportOf offence (Some evidence) said = said ≡ reported.Refuted evidence offence
-
 -- the input is a text of a history that is not linearizable
 -- Source: Herlihy and Wing, section 2.
 abbrev pub HasNoOrder : Conflicts → List ℕ → Type 0
@@ -60,8 +50,3 @@ IsProvedOf conflicts input (reported.Verified c) proved = proved ≡ Some true
 IsProvedOf conflicts input (reported.RefusedHistory f) proved = proved ≡ None
 IsProvedOf conflicts input (reported.RefusedWitness f) proved = proved ≡ None
 IsProvedOf conflicts input (reported.Broken f) proved = proved ≡ None
-
--- the reply is one to the call of this number: the call is on its document and its shard
--- Source: profile.
-abbrev pub IsOfCall : List Event → ℕ → BrokenReply → Type 0
-IsOfCall events n reply = (place : ℕ) × (op : Op) × IsCallAt events place n reply.shard reply.document op

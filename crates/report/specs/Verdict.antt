@@ -8,7 +8,7 @@ use Rattle.events.specs.Order.{Explains, IsLinearizable, Placed}
 use Rattle.history.specs.Reading.{history_text}
 use Rattle.history.specs.Text.{IsHistoryText}
 use Rattle.compose.specs.Counts.{calls_of}
-use Rattle.compose.specs.Covers.{AreCover}
+use Rattle.covers.specs.Covers.{AreCover}
 use Rattle.evidence.specs.Evidence.{Holds, IsReported, IsWithoutRuledOut}
 use Rattle.evidence.specs.declared.refuted.Refuted.{Refuted as Evidence}
 use Rattle.evidence.specs.declared.ruling_out.RulingOut.{RulingOut}

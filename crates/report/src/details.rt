@@ -1,6 +1,6 @@
 //! What a check finds in a text, piece by piece: what its line reports, and what is known beside.
 
-ghost use Rattle.std.specs.Prelude.{◌≡◌, ◌≢◌, IfErr, IfOk, IfSome, IsTrue, ℕ, List};
+ghost use Rattle.std.specs.Prelude.{◌≡◌, ◌≢◌, IfErr, IfOk, IfSome, IsTrue, None as Nothing, ℕ, List};
 ghost use Rattle.evidence.specs.Evidence.{Holds};
 ghost use Rattle.events.specs.Order.{IsLinearizable};
 ghost use Rattle.history.specs.Text.{IsHistoryText};
@@ -8,14 +8,19 @@ ghost use Rattle.result_lines.specs.Objects.{line_of};
 ghost use Rattle.stream_io.specs.Faults.{IsCheckFault, IsReadingFault};
 ghost use Rattle.stream_io.specs.Taken.{TakesHistory};
 ghost use Rattle.report.specs.Calls.{CountsCalls};
-ghost use Rattle.report.specs.Details.{IsOfCall, IsProvedOf, IsReportOf, calls_reported, status_of};
+ghost use Rattle.report.specs.Details.{IsProvedOf, calls_reported, status_of};
+ghost use Rattle.report.specs.Findings.{HasItsEvidence};
+ghost use Rattle.report.specs.aids.Reports.{IsOnDocumentOf, IsReportOf};
 ghost use Rattle.report.specs.Verdict.{AnswersInput, IsAnswer, IsWitnessAnswer};
 ghost use Rattle.report.specs.Workers.{AreWorkers, HasDocument, NamesOwnDocument};
 
 use crate::check_answer::{case_answer, verdict_by};
 use crate::check_options::CheckOptions;
 use crate::numbered_input::read_numbered;
-use compose::{Case, Certainty, Counts, Failing, Offence, RulingOut, Verdict, certainty_of};
+use api_lines::TextFault;
+use compose::{
+    Case, Certainty, Counts, Failing, Finding, Offence, RulingOut, Verdict, certainty_of,
+};
 use doc_check::is_complete;
 use doc_register::Conflicts;
 use events::{Event, HashKeys, History};
@@ -24,7 +29,7 @@ use std::alloc::Global;
 use std::io::Read;
 use std::sync::Wait;
 use std::thread::Threads;
-use story::EventLines;
+use story::{EventLines, Kept};
 use stream_io::{Status, StreamFault};
 use version_pair::NoMemory;
 
@@ -37,6 +42,20 @@ pub struct Details {
     pub proved: Option<bool>,
     /// Where the reply is at which the search for an order first fails, if it fails.
     pub broken_reply: Option<BrokenReply>,
+}
+
+impl Details {
+    /// Returns those of a text that is refused.
+    pub fn refused(fault: TextFault) -> Details
+        ensures reported { result.reported ≡ Reported.Refused fault }
+        ensures proved { result.proved ≡ Nothing }
+    {
+        Details {
+            reported: Reported::Refused(fault),
+            proved: None,
+            broken_reply: None,
+        }
+    }
 }
 
 /// Returns the status of an answer that reports this.
@@ -94,7 +113,7 @@ fn broken_reply_of(
     offence: Offence,
     lines: &EventLines,
 ) -> Result<Option<BrokenReply>, NoMemory>
-    ensures { IfOk result (λ found. IfSome found (IsOfCall history.now offence.call)) }
+    ensures { IfOk result (λ found. IfSome found (IsOnDocumentOf history.now offence.call)) }
 {
     let Some(place) = history.call(offence.call) else {
         return Ok(None);
@@ -126,56 +145,65 @@ fn failing_reported(failing: &Failing) -> Reported
     }
 }
 
-/// Returns the details of a history for which no order was found.
+/// Returns the details of a history for which no order was found, and the evidence and the offence.
 pub fn case_details(
     alloc: Global,
     case: &Case,
     ruling_out: RulingOut,
     lines: &EventLines,
-) -> Result<Details, NoMemory>
-    ensures answers { IfOk result (λ found. (input : List ℕ) → IsHistoryText input case.now.events
-        → IsAnswer ruling_out case.now.conflicts input (status_of found.reported) (line_of found.reported)
-        × IsWitnessAnswer ruling_out case.now.conflicts input (status_of found.reported) (line_of found.reported)) }
-    ensures calls { IfOk result (λ found. (input : List ℕ) → CountsCalls input (status_of found.reported)
-        (calls_reported found.reported)) }
-    ensures no { IfOk result (λ found. status_of found.reported ≢ Status.Yes) }
-    ensures proved { IfOk result (λ found. (input : List ℕ) → IsHistoryText input case.now.events
-        → IsProvedOf case.now.conflicts input found.reported found.proved) }
+) -> Result<(Details, Failing), NoMemory>
+    ensures answers { IfOk result (λ made. (input : List ℕ) → IsHistoryText input case.now.events
+        → IsAnswer ruling_out case.now.conflicts input (status_of made.0.reported) (line_of made.0.reported)
+        × IsWitnessAnswer ruling_out case.now.conflicts input (status_of made.0.reported) (line_of made.0.reported)) }
+    ensures calls { IfOk result (λ made. (input : List ℕ) → CountsCalls input (status_of made.0.reported)
+        (calls_reported made.0.reported)) }
+    ensures no { IfOk result (λ made. status_of made.0.reported ≢ Status.Yes) }
+    ensures proved { IfOk result (λ made. (input : List ℕ) → IsHistoryText input case.now.events
+        → IsProvedOf case.now.conflicts input made.0.reported made.0.proved) }
+    ensures holds { IfOk result (λ made. IfSome made.1.evidence (Holds case.now.conflicts case.now.events)) }
 {
     let (_answer, failing) = case_answer(alloc, case, ruling_out)?;
-    Ok(Details {
+    let details = Details {
         reported: failing_reported(&failing),
         proved: Some(is_proved(alloc, case, &failing)?),
         broken_reply: broken_reply_of(alloc, case.history(), failing.offence, lines)?,
-    })
+    };
+    Ok((details, failing))
 }
 
-// Returns the details of a history.
-fn history_details<T: Threads + Wait + Sync>(
+/// Returns the details of a history, and what was found of it.
+pub fn history_details<T: Threads + Wait + Sync>(
     rt: &T,
     alloc: Global,
     history: History,
     lines: &EventLines,
     options: CheckOptions,
-) -> Result<Details, StreamFault>
+) -> Result<(Details, Finding), StreamFault>
     requires workers { AreWorkers options.workers }
-    ensures answer { IfOk result (λ found. (input : List ℕ) → IsHistoryText input history
-        → IsAnswer options.ruling_out options.conflicts input (status_of found.reported) (line_of found.reported)) }
-    ensures calls { IfOk result (λ found. (input : List ℕ) → IsHistoryText input history
-        → CountsCalls input (status_of found.reported) (calls_reported found.reported)) }
-    ensures proved { IfOk result (λ found. (input : List ℕ) → IsHistoryText input history
-        → IsProvedOf options.conflicts input found.reported found.proved) }
+    ensures answer { IfOk result (λ made. (input : List ℕ) → IsHistoryText input history
+        → IsAnswer options.ruling_out options.conflicts input (status_of made.0.reported) (line_of made.0.reported)) }
+    ensures calls { IfOk result (λ made. (input : List ℕ) → IsHistoryText input history
+        → CountsCalls input (status_of made.0.reported) (calls_reported made.0.reported)) }
+    ensures proved { IfOk result (λ made. (input : List ℕ) → IsHistoryText input history
+        → IsProvedOf options.conflicts input made.0.reported made.0.proved) }
+    ensures evidence { IfOk result (λ made. HasItsEvidence made.1) }
     ensures reported { IfErr result IsCheckFault }
     ensures alone { options.workers ≡ 1 → IfErr result (λ fault. fault ≡ StreamFault.NoMemory) }
     ensures named { IfErr result (HasDocument history) }
 {
     match verdict_by(rt, alloc, history, options)? {
-        Verdict::Yes(proof) => Ok(Details {
-            reported: Reported::Yes(Counts::of(&proof)),
-            proved: Some(true),
-            broken_reply: None,
-        }),
-        Verdict::No(case) => Ok(case_details(alloc, &case, options.ruling_out, lines)?),
+        Verdict::Yes(proof) => {
+            let details = Details {
+                reported: Reported::Yes(Counts::of(&proof)),
+                proved: Some(true),
+                broken_reply: None,
+            };
+            Ok((details, Finding::Explained(proof)))
+        }
+        Verdict::No(case) => {
+            let (details, failing) = case_details(alloc, &case, options.ruling_out, lines)?;
+            Ok((details, Finding::Unexplained(case, failing)))
+        }
     }
 }
 
@@ -211,13 +239,12 @@ pub fn check_details<T: Threads + Wait + Sync, R: Read>(
     // `check_stream`.
     ensures taken { TakesHistory (R.remaining reader.old) (R.remaining reader.new) }
 {
-    match read_numbered(alloc, keys, reader) {
-        Ok(Ok((history, lines))) => history_details(rt, alloc, history, &lines, options),
-        Ok(Err(refused)) => Ok(Details {
-            reported: Reported::Refused(refused.fault),
-            proved: None,
-            broken_reply: None,
-        }),
+    match read_numbered(alloc, keys, reader, Kept::Times) {
+        Ok(Ok((history, lines))) => {
+            let (details, _) = history_details(rt, alloc, history, &lines, options)?;
+            Ok(details)
+        }
+        Ok(Err(refused)) => Ok(Details::refused(refused.fault)),
         Err(fault) => Err(StreamFault::from(fault)),
     }
 }

@@ -19,6 +19,7 @@ use crate::check_options::CheckOptions;
 use crate::earlier::{Earlier, earlier_reasons};
 use crate::numbered_input::read_numbered;
 use crate::searches::Searches;
+use crate::shown_page::{PageOptions, page_shown, view_of};
 use compose::{Case, Certainty, Counts, Failing, Finding, Offence, RulingOut, certainty_of};
 use events::{HashKeys, History};
 use std::alloc::Global;
@@ -26,8 +27,8 @@ use std::io::Read;
 use std::sync::Wait;
 use std::thread::Threads;
 use story::{
-    About, EventLines, Explained, Story, Subjects, Unexplained, View, explained_story,
-    failing_story, page_of, plain_text, refused_story,
+    EventLines, Explained, Kept, Story, Subjects, Unexplained, View, explained_story,
+    failing_story, plain_text, refused_story,
 };
 use stream_io::{Answer, StreamFault};
 use version_pair::NoMemory;
@@ -128,8 +129,8 @@ fn story_of_case(
     failing_story(alloc, &subjects, lines, &searches, view)
 }
 
-// Returns the explanation of a history.
-fn story_of(
+/// Returns the explanation of a history.
+pub fn story_of(
     alloc: Global,
     finding: &Finding,
     lines: &EventLines,
@@ -193,7 +194,7 @@ fn explain<T: Threads + Wait + Sync, R: Read>(
     ensures named { IfErr result (NamesOwnDocument (R.remaining reader.old)) }
     ensures taken { TakesHistory (R.remaining reader.old) (R.remaining reader.new) }
 {
-    match read_numbered(alloc, keys, reader) {
+    match read_numbered(alloc, keys, reader, Kept::All) {
         Ok(Ok((history, lines))) => { explained_history(rt, alloc, history, &lines, options, view) }
         Ok(Err(refused)) => {
             let answer = refusal(alloc, refused.fault)?;
@@ -221,47 +222,18 @@ fn with_story(alloc: Global, answer: Answer, story: &Story) -> Result<Answer, No
     answer.followed_by(plain.as_bytes())
 }
 
-/// Returns the line of a check of the text of a reader, followed by its explanation.
-pub fn explained_text<T: Threads + Wait + Sync, R: Read>(
-    rt: &T,
-    alloc: Global,
-    keys: HashKeys,
-    reader: &mut R,
-    options: CheckOptions,
-) -> Result<Answer, StreamFault>
-    requires workers { AreWorkers options.workers }
-    ensures answer { IfOk result (λ made. ExplainsInput options.ruling_out options.conflicts (R.remaining reader.old) made.status
-        made.text.items) }
-    ensures reported { IfErr result IsCheckFault }
-    ensures alone { options.workers ≡ 1 → IfErr result IsReadingFault }
-    ensures named { IfErr result (NamesOwnDocument (R.remaining reader.old)) }
-    ensures taken { TakesHistory (R.remaining reader.old) (R.remaining reader.new) }
-{
-    let (answer, story) = explain(rt, alloc, keys, reader, options, None)?;
-    Ok(with_story(alloc, answer, &story)?)
-}
-
-/// What a page shows beside the explanation. Nothing is promised of it.
-#[derive(Clone, Copy)]
-pub struct PageOptions<'a> {
-    /// The name of the history's file; `None` if it is standard input.
-    pub file: Option<&'a str>,
-    /// The document that is drawn as a timeline, if one is asked for.
-    pub view: Option<View<'a>>,
-}
-
-/// Reads a history text to its end. Returns the answer that `explain_stream` writes for it, and the
-/// explanation as a page of HTML, with a drawing of the calls. It writes nothing.
+/// Reads a history text to its end. Returns the answer that `explain_stream` writes for it; and the explanation as a
+/// page of HTML, with a drawing of the calls, if that is asked for. It writes nothing.
 ///
 /// Errors, whichever comes first: `Read`, `NoMemory`, `Worker`. It waits as `check_stream` does.
-pub fn explained_page<T: Threads + Wait + Sync, R: Read>(
+pub fn explained_answer<T: Threads + Wait + Sync, R: Read>(
     rt: &T,
     alloc: Global,
     keys: HashKeys,
     reader: &mut R,
     options: CheckOptions,
-    shown: PageOptions<'_>,
-) -> Result<(Answer, Vec<u8>), StreamFault>
+    shown: Option<PageOptions<'_>>,
+) -> Result<(Answer, Option<Vec<u8>>), StreamFault>
     // There are 1 to 16 workers.
     requires workers { AreWorkers options.workers }
     // The text of the answer begins with a line that answers the bytes of the reader as the line of
@@ -269,7 +241,7 @@ pub fn explained_page<T: Threads + Wait + Sync, R: Read>(
     ensures text { IfOk result (λ made. ExplainsInput options.ruling_out options.conflicts (R.remaining reader.old) made.0.status
         made.0.text.items) }
     // The page is made of markup of the crate `page`, numbers, and escaped texts.
-    ensures page { IfOk result (λ made. IsPage made.1.items) }
+    ensures page { IfOk result (λ made. IfSome made.1 (λ page. IsPage page.items)) }
     // The only errors are `Read`, `NoMemory` and `Worker`.
     ensures reported { IfErr result IsCheckFault }
     // With one worker, the caller's thread, the error is never `Worker`.
@@ -280,15 +252,9 @@ pub fn explained_page<T: Threads + Wait + Sync, R: Read>(
     // `check_stream`.
     ensures taken { TakesHistory (R.remaining reader.old) (R.remaining reader.new) }
 {
-    let (answer, story) = explain(rt, alloc, keys, reader, options, shown.view.as_ref())?;
-    let about = About {
-        file: shown.file,
-        conflicts: options.conflicts,
-        ruling_out: options.ruling_out,
-        workers: options.workers,
-        view: shown.view,
-    };
-    let page = page_of(alloc, line_of(&answer), &story, &about)?;
+    let view = view_of(&shown);
+    let (answer, story) = explain(rt, alloc, keys, reader, options, view)?;
+    let page = page_shown(alloc, line_of(&answer), &story, options, shown)?;
     let made = with_story(alloc, answer, &story)?;
     Ok((made, page))
 }

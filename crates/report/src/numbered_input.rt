@@ -8,16 +8,17 @@ use events::{HashKeys, History};
 use history::laws::texts_are_read;
 use std::alloc::Global;
 use std::io::Read;
-use story::{EventLines, read_numbered_from};
+use story::{EventLines, Kept, read_numbered_from};
 
 /// Reads the history text of the reader to its end, and returns its history, with these keys, and the lines
-/// that its events are on; or the first line that is refused. No bytes after that line are taken but those
-/// that the last read brought, which is asked for 32,768 bytes. A fault of the reader of any kind ends the
-/// reading.
+/// that its events are on, of which that much is kept; or the first line that is refused. No bytes after that
+/// line are taken but those that the last read brought, which is asked for 32,768 bytes. A fault of the reader of
+/// any kind ends the reading.
 pub fn read_numbered<R: Read>(
     alloc: Global,
     keys: HashKeys,
     reader: &mut R,
+    kept: Kept,
 ) -> Result<Result<(History, EventLines), RefusedLine>, InputFault>
     ensures text { IfOk result (λ reported. IfSome (R.remaining reader.old)
         (λ text. IfOk reported (λ read. IsHistoryText text read.0))) }
@@ -28,5 +29,5 @@ pub fn read_numbered<R: Read>(
 {
     // That what is read is a text of its history is known from here on.
     texts_are_read();
-    read_numbered_from(alloc, keys, reader)
+    read_numbered_from(alloc, keys, reader, kept)
 }

@@ -12,7 +12,7 @@ use crate::bulk_answer::bulk_answer;
 use crate::check_options::CheckOptions;
 use crate::checked::check_text;
 use crate::details::status_of;
-use crate::explain::explained_text;
+use crate::explain::explained_answer;
 use crate::verify_input::verify_reported;
 use crate::witness_answer::witness_answer;
 use compose::RulingOut;
@@ -144,7 +144,7 @@ pub fn explain_stream<T: Threads + Wait + Sync, R: Read, W: Write>(
         conflicts,
         ruling_out,
     };
-    let answer = explained_text(rt, alloc, keys, reader, options)?;
+    let (answer, _) = explained_answer(rt, alloc, keys, reader, options, None)?;
     write_answer(writer, &answer)
 }
 

@@ -9,10 +9,9 @@ use crate::numbered_input::read_numbered;
 use compose::{RulingOut, Verdict, check_alone};
 use doc_register::Conflicts;
 use events::{HashKeys, History};
-use result_lines::Reported;
 use std::alloc::{AllocError, Global};
 use std::io::Read;
-use story::EventLines;
+use story::{EventLines, Kept};
 use stream_io::StreamFault;
 use version_pair::NoMemory;
 use witness::write_witness;
@@ -43,7 +42,7 @@ fn history_witnessed(
             Ok(Witnessed::Text(text))
         }
         Ok(Verdict::No(case)) => {
-            let details = case_details(alloc, &case, ruling_out, lines)?;
+            let (details, _) = case_details(alloc, &case, ruling_out, lines)?;
             Ok(Witnessed::Answered(details))
         }
         Err(_) => Err(AllocError),
@@ -69,15 +68,11 @@ pub fn witness_details<R: Read>(
     // `check_stream`.
     ensures taken { TakesHistory (R.remaining reader.old) (R.remaining reader.new) }
 {
-    match read_numbered(alloc, keys, reader) {
+    match read_numbered(alloc, keys, reader, Kept::Times) {
         Ok(Ok((history, lines))) => {
             Ok(history_witnessed(alloc, history, &lines, conflicts, ruling_out)?)
         }
-        Ok(Err(refused)) => Ok(Witnessed::Answered(Details {
-            reported: Reported::Refused(refused.fault),
-            proved: None,
-            broken_reply: None,
-        })),
+        Ok(Err(refused)) => Ok(Witnessed::Answered(Details::refused(refused.fault))),
         Err(fault) => Err(StreamFault::from(fault)),
     }
 }

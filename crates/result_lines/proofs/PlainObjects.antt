@@ -17,7 +17,7 @@ use Rattle.compose.specs.declared.offence.Offence.{Offence}
 use Rattle.compose.specs.declared.verify_fault.VerifyFault.{VerifyFault}
 use Rattle.compose.specs.declared.verify_fault.VerifyFault.TheVariants as fault
 use Rattle.result_lines.specs.Lines.{before_name, cause_name, kind_name}
-use Rattle.result_lines.specs.Objects.{at_fault, broken_members, broken_reply_members, calls_of, counts_of, facts_members, fault_members, line_members, lines_of, milliseconds_member, offence_members, places_members, proved_member, time_member, witness_member}
+use Rattle.result_lines.specs.Objects.{at_fault, broken_members, broken_reply_members, calls_of, counts_of, facts_members, fault_members, line_members, lines_of, milliseconds_member, offence_members, places_members, proved_member, text_member}
 use Rattle.result_lines.specs.declared.facts.BrokenReply.{BrokenReply}
 use Rattle.result_lines.specs.declared.facts.Facts.{Facts}
 use Rattle.result_lines.specs.declared.reported.Reported.{Reported}
@@ -113,17 +113,13 @@ line_plain (reported.Broken f) = broken_plain f _ (text_plain (codes "answer") (
 
 -- ---- the facts
 
-witness_plain : (name : Option (List ℕ)) (ms : Members) → ArePlain ms → ArePlain (witness_member name ms)
-witness_plain None ms all = all
-witness_plain (Some name) ms all = text_plain (codes "witness") name ms all
+given_plain : (key : List ℕ) (text : Option (List ℕ)) (ms : Members) → ArePlain ms → ArePlain (text_member key text ms)
+given_plain key None ms all = all
+given_plain key (Some text) ms all = text_plain key text ms all
 
 proved_plain : (proved : Option Bool) (ms : Members) → ArePlain ms → ArePlain (proved_member proved ms)
 proved_plain None ms all = all
 proved_plain (Some proved) ms all = with_plain (codes "proved") (boolean proved) ms refl all
-
-time_plain : (time : Option (List ℕ)) (ms : Members) → ArePlain ms → ArePlain (time_member time ms)
-time_plain None ms all = all
-time_plain (Some time) ms all = text_plain (codes "time") time ms all
 
 lines_plain : (call reply : ℕ) → has_float (lines_of call reply) ≡ false
 lines_plain call reply = object_of_plain _ (number_plain (codes "reply") reply _ (number_plain (codes "call") call no_members none_plain))
@@ -131,7 +127,7 @@ lines_plain call reply = object_of_plain _ (number_plain (codes "reply") reply _
 broken_reply_plain : (r : Option BrokenReply) (ms : Members) → ArePlain ms → ArePlain (broken_reply_members r ms)
 broken_reply_plain None ms all = all
 broken_reply_plain (Some r) ms all =
-    time_plain (option_map string_bytes r.time) _ (number_plain (codes "shard") r.shard _
+    given_plain (codes "time") (option_map string_bytes r.time) _ (number_plain (codes "shard") r.shard _
     (with_plain (codes "lines") (lines_of r.call_line r.reply_line) _ (lines_plain r.call_line r.reply_line) (text_plain (codes "document") r.document ms all)))
 
 milliseconds_plain : (n : Option ℕ) (ms : Members) → ArePlain ms → ArePlain (milliseconds_member n ms)
@@ -141,5 +137,6 @@ milliseconds_plain (Some n) ms all = number_plain (codes "milliseconds") n ms al
 -- the object that is written has no float
 pub object_plain : (said : Reported) (facts : Facts) → has_float (object (facts_members facts (line_members said no_members))) ≡ false
 object_plain said facts =
-    object_of_plain _ (broken_reply_plain facts.broken_reply _ (proved_plain facts.proved _ (witness_plain (option_map (λ w. w.now) facts.witness) _
-    (milliseconds_plain facts.milliseconds _ (text_plain (codes "file") facts.file.now _ (line_plain said))))))
+    object_of_plain _ (broken_reply_plain facts.broken_reply _ (proved_plain facts.proved _
+    (given_plain (codes "explanation") (option_map (λ t. t.now) facts.explanation) _ (given_plain (codes "witness") (option_map (λ t. t.now) facts.witness) _
+    (milliseconds_plain facts.milliseconds _ (text_plain (codes "file") facts.file.now _ (line_plain said)))))))

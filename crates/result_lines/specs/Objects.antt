@@ -109,11 +109,11 @@ line_members (reported.Broken f) ms = broken_members f (with_text (codes "answer
 
 -- ---- the other members
 
--- `witness`, if there is one
+-- a text of this key, if there is one
 -- Source: profile.
-abbrev pub witness_member : Option (List ℕ) → Members → Members
-witness_member None ms = ms
-witness_member (Some name) ms = with_text (codes "witness") name ms
+abbrev pub text_member : List ℕ → Option (List ℕ) → Members → Members
+text_member key None ms = ms
+text_member key (Some text) ms = with_text key text ms
 
 -- `proved`, if the answer is one that an order explains the history or that none does
 -- Source: profile.
@@ -126,18 +126,12 @@ proved_member (Some proved) ms = put (codes "proved") (boolean proved) ms
 abbrev pub lines_of : ℕ → ℕ → Data
 lines_of call reply = object (with_number (codes "reply") reply (with_number (codes "call") call no_members))
 
--- `time`, if there is one
--- Source: profile.
-abbrev pub time_member : Option (List ℕ) → Members → Members
-time_member None ms = ms
-time_member (Some time) ms = with_text (codes "time") time ms
-
 -- `document`, `lines` and `shard` of the reply at which the search first fails, and its `time`
 -- Source: profile.
 abbrev pub broken_reply_members : Option BrokenReply → Members → Members
 broken_reply_members None ms = ms
 broken_reply_members (Some r) ms =
-    time_member (option_map string_bytes r.time)
+    text_member (codes "time") (option_map string_bytes r.time)
     (with_number (codes "shard") r.shard (put (codes "lines") (lines_of r.call_line r.reply_line) (with_text (codes "document") r.document ms)))
 
 -- `milliseconds`, if they are known
@@ -152,14 +146,10 @@ abbrev pub facts_members : Facts → Members → Members
 facts_members f ms =
     broken_reply_members f.broken_reply
     (proved_member f.proved
-    (witness_member (option_map (λ w. w.now) f.witness) (milliseconds_member f.milliseconds (with_text (codes "file") f.file.now ms))))
+    (text_member (codes "explanation") (option_map (λ t. t.now) f.explanation)
+    (text_member (codes "witness") (option_map (λ t. t.now) f.witness) (milliseconds_member f.milliseconds (with_text (codes "file") f.file.now ms)))))
 
 -- the text that is written: the object, and a line feed
 -- Source: profile.
 abbrev pub object_text : Reported → Facts → List ℕ
 object_text said facts = compact_text (object (facts_members facts (line_members said no_members))) ++ codes "\n"
-
--- the text is an object whose members are those of this line, of the history of this file, with other facts
--- Source: profile.
-abbrev pub IsObjectOf : List ℕ → List ℕ → List ℕ → Type 0
-IsObjectOf file line text = (said : Reported) × (facts : Facts) × (line ≡ line_of said) × (facts.file.now ≡ file) × (text ≡ object_text said facts)

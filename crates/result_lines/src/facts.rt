@@ -26,6 +26,8 @@ pub struct Facts<'a> {
     pub proved: Option<bool>,
     /// Where the search first fails, if it does.
     pub broken_reply: Option<BrokenReply>,
+    /// What explains the answer, if that is asked for.
+    pub explanation: Option<&'a str>,
     /// How long the answer took, if that is known.
     pub milliseconds: Option<u64>,
 }

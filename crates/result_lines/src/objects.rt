@@ -1,9 +1,9 @@
 //! Objects of JSON that are written in place of lines.
 
-ghost use Rattle.std.specs.Prelude.{◌≡◌, IfOk, option_map, string_bytes};
+ghost use Rattle.std.specs.Prelude.{◌≡◌, IfOk, codes, option_map, string_bytes};
 ghost use Rattle.serde_json.specs.View.{view};
 ghost use Rattle.api_lines.specs.Objects.{members_of};
-ghost use Rattle.result_lines.specs.Objects.{broken_reply_members, facts_members, lines_of, milliseconds_member, object_text, proved_member, time_member, witness_member};
+ghost use Rattle.result_lines.specs.Objects.{broken_reply_members, facts_members, lines_of, milliseconds_member, object_text, proved_member, text_member};
 
 use crate::facts::{BrokenReply, Facts};
 use crate::members::with_reported;
@@ -23,9 +23,19 @@ fn lines_value(alloc: Global, reply: &BrokenReply) -> Result<Value, NoMemory>
     Ok(object.into_value())
 }
 
+// Returns the object with a text as the value of this key, if there is one.
+fn with_text(object: LineObject, key: &str, text: Option<&str>) -> Result<LineObject, NoMemory>
+    ensures { IfOk result (λ made. members_of made ≡ text_member key.now (option_map (λ t. t.now) text.entry) (members_of object)) }
+{
+    match text {
+        Some(text) => object.text(key, text),
+        None => Ok(object),
+    }
+}
+
 // Returns the object with a time, if there is one.
 fn with_time(object: LineObject, time: &Option<String>) -> Result<LineObject, NoMemory>
-    ensures { IfOk result (λ made. members_of made ≡ time_member (option_map string_bytes time.now) (members_of object)) }
+    ensures { IfOk result (λ made. members_of made ≡ text_member (codes "time") (option_map string_bytes time.now) (members_of object)) }
 {
     match time {
         Some(time) => object.text("time", time.as_str()),
@@ -49,16 +59,6 @@ fn with_broken_reply(
                 .number("shard", reply.shard as u64)?;
             with_time(object, &reply.time)
         }
-        None => Ok(object),
-    }
-}
-
-// Returns the object with the name of the witness, if there is one.
-fn with_witness(object: LineObject, witness: Option<&str>) -> Result<LineObject, NoMemory>
-    ensures { IfOk result (λ made. members_of made ≡ witness_member (option_map (λ t. t.now) witness.entry) (members_of object)) }
-{
-    match witness {
-        Some(witness) => object.text("witness", witness),
         None => Ok(object),
     }
 }
@@ -89,7 +89,8 @@ fn with_facts(alloc: Global, object: LineObject, facts: &Facts<'_>) -> Result<Li
 {
     let object = object.text("file", facts.file)?;
     let object = with_milliseconds(object, facts.milliseconds)?;
-    let object = with_witness(object, facts.witness)?;
+    let object = with_text(object, "witness", facts.witness)?;
+    let object = with_text(object, "explanation", facts.explanation)?;
     let object = with_proved(object, facts.proved)?;
     with_broken_reply(alloc, object, &facts.broken_reply)
 }

@@ -31,11 +31,12 @@ pub fn calls_in_view<'h>(
             calls.push(Call { id, shard, record })?;
         }
     }
-    let before = event.map_or(0, |event| {
-        calls.partition_point(|call| call.record.call_at <= event)
-    });
-    let mut chosen = Vec::new(draft.alloc);
+    let before = match event {
+        Some(event) => calls.partition_point(|call| call.record.call_at <= event),
+        None => 0,
+    };
     let left_out = before.saturating_sub(MOST_CALLS);
+    let mut chosen = Vec::new(draft.alloc);
     for call in calls.iter().skip(left_out).take(MOST_CALLS) {
         chosen.push(*call)?;
     }

@@ -3,8 +3,8 @@ use crate::timeline::add_explained_timeline;
 use api_lines::RefusedLine;
 use places::DocWitness;
 use std::alloc::Global;
-use story_blocks::Word::{Asked, Count, Heard, Id, Number, Version};
-use story_blocks::{Block, Draft, EventLines, HistoryCounts, NOTATION, Story, View, sentence_of};
+use story_blocks::Word::{Count, Id, Number, Phrase, Version};
+use story_blocks::{Draft, EventLines, HistoryCounts, NOTATION, Story, View};
 use story_drawings::MOST_DESCRIBED;
 use story_reasons::{Explained, record_at};
 use story_words::add_coverage;
@@ -14,57 +14,46 @@ use version_pair::NoMemory;
 fn completed_count(witnesses: &[DocWitness]) -> usize {
     let mut count = 0usize;
     for witness in witnesses {
-        let completed = witness.places().iter().filter(|place| place.pair.is_some());
-        // A history has too few calls for the sum to reach the greatest number.
-        count = count.saturating_add(completed.count());
+        for place in witness.places() {
+            if place.pair.is_some() {
+                // A history has too few calls for the sum to reach the greatest number.
+                count = count.saturating_add(1);
+            }
+        }
     }
     count
 }
 
-// Adds the calls of a document that took effect though no reply says so, as far as there is room.
-fn add_completed(
-    draft: &Draft<'_>,
-    witness: &DocWitness,
-    items: &mut Vec<String>,
-) -> Result<(), NoMemory> {
+// Adds the calls of a document that took effect though no reply says so, as far as there is room. Returns how many
+// there is room for after them.
+fn add_completed(draft: &mut Draft<'_>, witness: &DocWitness, room: usize) -> usize {
+    let mut room = room;
     for place in witness.places() {
-        if items.len() >= MOST_DESCRIBED {
-            return Ok(());
-        }
-        if let (Some(pair), Some(record)) = (place.pair, record_at(witness, place)) {
-            draft.item(
-                items,
-                "line {}, call {} of {}: {} -> {}, took effect as {}",
-                &[
-                    draft.called(&record),
-                    Number(record.no),
-                    Id(witness.id()),
-                    Asked(record.op),
-                    Heard(record.heard),
-                    Version(pair),
-                ],
-            )?;
+        if room > 0 && place.pair.is_some() {
+            if let Some(record) = record_at(witness, place) {
+                draft.item(
+                    "line {0.called}, call {0.no} of {1}: {0.asked} -> {0.heard}, took effect as {2}",
+                    &[draft.call(&record), Id(witness.id()), Version(place.pair)],
+                );
+                room = room.saturating_sub(1);
+            }
         }
     }
-    Ok(())
+    room
 }
 
 // Adds the calls of unknown outcome that took effect in the order found: the first of them.
-fn add_effects(
-    draft: &mut Draft<'_>,
-    witnesses: &[DocWitness],
-    count: usize,
-) -> Result<(), NoMemory> {
+fn add_effects(draft: &mut Draft<'_>, witnesses: &[DocWitness], count: usize) {
     if count == 0 {
-        return Ok(());
+        return;
     }
-    let mut items = Vec::new(draft.alloc);
+    draft.heading("Calls of unknown outcome that took effect");
+    draft.paragraph(NOTATION, &[]);
+    let mut room = MOST_DESCRIBED;
     for witness in witnesses {
-        add_completed(draft, witness, &mut items)?;
+        room = add_completed(draft, witness, room);
     }
-    draft.heading("Calls of unknown outcome that took effect")?;
-    draft.paragraph(NOTATION, &[])?;
-    draft.items(items, count, "And {} more.")
+    draft.end_list(count, "And {} more.");
 }
 
 /// Returns the explanation of a history that an order explains, with a timeline if one is asked for. Nothing is
@@ -86,32 +75,31 @@ pub fn explained_story(
             Count(count),
             Count(explained.left_out),
         ],
-    )?;
+    );
     add_explained_timeline(&mut draft, witnesses, view)?;
-    add_effects(&mut draft, witnesses, count)?;
-    add_coverage(&mut draft, explained)?;
-    let title = draft.sentence("One order of the calls explains every reply.", &[])?;
+    add_effects(&mut draft, witnesses, count);
+    add_coverage(&mut draft, explained);
+    let title = draft.text("One order of the calls explains every reply.", &[]);
     let counts = HistoryCounts {
         events: lines.events(),
         calls: explained.calls,
         documents: explained.docs,
     };
-    Ok(draft.finish(title, Some(counts)))
+    draft.finish(title, Some(counts))
 }
 
 /// Returns the explanation of a text that was refused. Nothing is promised of its sentences.
 pub fn refused_story(alloc: Global, refused: &RefusedLine) -> Result<Story, NoMemory> {
-    let line = Number(refused.fault.line);
-    let title = sentence_of(
-        alloc,
-        "Line {} of the text is refused, so nothing was judged.",
-        &[line],
-    )?;
     let lines = EventLines::new(alloc);
     let mut draft = Draft::new(alloc, &lines);
-    add_refusal(&mut draft, refused)?;
-    draft.heading("How the line begins")?;
+    let title = draft.text(
+        "Line {} of the text is refused, so nothing was judged.",
+        &[Number(refused.fault.line)],
+    );
+    add_refusal(&mut draft, refused);
+    draft.heading("How the line begins");
     let shown = line_shown(alloc, &refused.line)?;
-    draft.add(Block::Items(vec![in alloc; shown]?))?;
-    Ok(draft.finish(title, None))
+    draft.item("{}", &[Phrase(shown.as_str())]);
+    draft.end_list(0, "");
+    draft.finish(title, None)
 }

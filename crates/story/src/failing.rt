@@ -3,7 +3,7 @@ use crate::timeline::add_failing_timeline;
 use events::{Event, History};
 use evidence::Certainty;
 use std::alloc::Global;
-use story_blocks::Word::{Asked, Heard, Id, Number, Text};
+use story_blocks::Word::{Id, Number, Text};
 use story_blocks::{Draft, EventLines, HistoryCounts, Story, View};
 use story_drawings::{Kept, MOST_DESCRIBED, Named};
 use story_reasons::{
@@ -14,46 +14,35 @@ use story_words::{add_advice, add_damage, add_decision, add_headline, add_why, c
 use version_pair::NoMemory;
 
 // Adds the document of the offence, and the reply at which the search first fails.
-fn add_offence(
-    draft: &mut Draft<'_>,
-    unexplained: &Unexplained<'_>,
-    call: &Call<'_>,
-) -> Result<(), NoMemory> {
-    let shard = Number(call.shard as u64);
-    draft.paragraph("The document: {} on shard {}.", &[Id(call.id), shard])?;
+fn add_offence(draft: &mut Draft<'_>, unexplained: &Unexplained<'_>, call: &Call<'_>) {
+    draft.paragraph(
+        "The document: {} on shard {}.",
+        &[Id(call.id), Number(call.shard as u64)],
+    );
     let before = if unexplained.before_shown {
         "The events before this reply have an order; with it, none was found."
     } else {
         "No order was found for the events before this reply either."
     };
-    let words = [
-        draft.line(unexplained.event),
-        Number(call.record.no),
-        Asked(call.record.op),
-        draft.called(&call.record),
-        Heard(call.record.heard),
-        Text(before),
-    ];
     draft.paragraph(
-        "The reply that broke it: line {}, the reply to call {} ({}, called in line {}): {}. {}",
-        &words,
-    )
+        "The reply that broke it: line {0}, the reply to call {1.no} ({1.asked}, called in line {1.called}): {1.heard}. {2}",
+        &[
+            draft.line(unexplained.event),
+            draft.call(&call.record),
+            Text(before),
+        ],
+    );
 }
 
 // Adds how much the answer says, and of which reply.
-fn add_answer(
-    draft: &mut Draft<'_>,
-    unexplained: &Unexplained<'_>,
-    subjects: &[Subject<'_>],
-) -> Result<(), NoMemory> {
+fn add_answer(draft: &mut Draft<'_>, unexplained: &Unexplained<'_>, subjects: &[Subject<'_>]) {
     let certainty = unexplained.certainty;
-    draft.paragraph(certainty_words(certainty), &[])?;
+    draft.paragraph(certainty_words(certainty), &[]);
     if let (Certainty::Undecided, Some(subject)) = (certainty, subjects.first()) {
-        add_decision(draft, unexplained, subject)?;
+        add_decision(draft, unexplained, subject);
     }
-    match call_of(unexplained.history, unexplained.call) {
-        Some(call) => add_offence(draft, unexplained, &call),
-        None => Ok(()),
+    if let Some(call) = call_of(unexplained.history, unexplained.call) {
+        add_offence(draft, unexplained, &call);
     }
 }
 
@@ -109,8 +98,8 @@ fn add_findings<S: OrderSearch>(
 ) -> Result<String, NoMemory> {
     let unexplained = &explained.unexplained;
     let subjects = explained.list.as_slice();
-    let title = add_headline(draft, unexplained, found)?;
-    add_answer(draft, unexplained, subjects)?;
+    let title = add_headline(draft, unexplained, found);
+    add_answer(draft, unexplained, subjects);
     add_why(draft, unexplained, subjects, search)?;
     add_damage(draft, unexplained, subjects)?;
     Ok(title)
@@ -156,5 +145,5 @@ pub fn failing_story<S: OrderSearch>(
     add_failing_timeline(&mut draft, unexplained, search, &named, view)?;
     add_advice(&mut draft, unexplained, subjects, found)?;
     add_calls(&mut draft, explained, &named, search)?;
-    Ok(draft.finish(title, Some(counts_of(unexplained.whole))))
+    draft.finish(title, Some(counts_of(unexplained.whole)))
 }

@@ -20,6 +20,6 @@ mod timeline;
 
 pub use describing::{explained_story, refused_story};
 pub use failing::failing_story;
-pub use numbered_input::read_numbered_from;
+pub use numbered_input::{Kept, read_numbered_from};
 pub use story_blocks::{About, EventLines, Story, View, page_of, plain_text};
 pub use story_reasons::{Explained, OrderSearch, Subjects, Unexplained};

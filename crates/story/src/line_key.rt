@@ -1,7 +1,6 @@
 use api_lines::{LineFault, given_line};
-use jiff::Timestamp;
 use memchr::memchr;
-use memchr::memmem::{Finder, find};
+use memchr::memmem::{Finder, rfind};
 use serde_json::Value;
 use std::alloc::{AllocError, Global};
 use version_pair::NoMemory;
@@ -58,10 +57,10 @@ impl LineKey {
         self.quoted.find(line).is_some()
     }
 
-    // Returns what follows the key in the line, if the key surely is one of the line's own object: no other object
-    // and no list begins between the start of the line and it.
+    // Returns what follows the key in the line where it stands last, if it surely is one of the line's own object
+    // there: no other object and no list begins between the start of the line and it.
     fn own_member<'l>(&self, line: &'l [u8]) -> Option<&'l [u8]> {
-        let place = find(line, self.begin)?;
+        let place = rfind(line, self.begin)?;
         let before = line.get(1..place)?;
         if memchr(b'{', before).is_some() || memchr(b'[', before).is_some() {
             return None;
@@ -117,17 +116,20 @@ impl LineKey {
         }
     }
 
-    /// Returns the time that the member is, in milliseconds since 1970; `None` if the line has none, or one that
-    /// is no such number.
-    pub fn moment(&self, alloc: Global, line: &[u8]) -> Result<Option<Timestamp>, NoMemory> {
-        let plain = self.last_number(line).or_else(|| self.plain_number(line));
-        let millisecond = match plain {
-            Some(millisecond) => Some(millisecond),
-            None => {
-                let value = value_of(alloc, line)?;
-                value.and_then(|value| value.get(self.name).and_then(|time| time.as_i64()))
-            }
-        };
-        Ok(millisecond.and_then(|millisecond| Timestamp::from_millisecond(millisecond).ok()))
+    /// Returns the number that the member is, of several the last one; `None` if the line has none, or one that is
+    /// no integer.
+    pub fn number(&self, alloc: Global, line: &[u8]) -> Result<Option<i64>, NoMemory> {
+        if let Some(number) = self.last_number(line) {
+            return Ok(Some(number));
+        }
+        if !self.may_be_in(line) {
+            return Ok(None);
+        }
+        if let Some(number) = self.plain_number(line) {
+            return Ok(Some(number));
+        }
+        let value = value_of(alloc, line)?;
+        let member = value.as_ref().and_then(|value| value.get(self.name));
+        Ok(member.and_then(|it| it.as_i64()))
     }
 }

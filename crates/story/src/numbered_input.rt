@@ -13,11 +13,21 @@ use std::io::Read;
 use story_blocks::EventLines;
 use version_pair::NoMemory;
 
+/// What is kept of what the lines of events say beside the events.
+#[derive(Clone, Copy, Debug, PartialEq, Eq)]
+pub enum Kept {
+    /// When they were written.
+    Times,
+    /// That, who asked, and the notes.
+    All,
+}
+
 // The lines of the events of a history that is read, and what they say beside the events.
 #[derive(Drop)]
 struct NumberedLines {
     alloc: Global,
     lines: EventLines,
+    kept: Kept,
     time: LineKey,
     client: LineKey,
     note: LineKey,
@@ -34,22 +44,28 @@ impl NumberedLines {
         }
     }
 
-    // Adds the next line, which was not refused.
-    fn add(&mut self, line: &[u8]) -> Result<(), NoMemory> {
-        if is_blank(line) {
-            return self.lines.add_blank();
-        }
-        if self.time.may_be_in(line) {
-            if let Some(time) = self.time.moment(self.alloc, line)? {
-                self.lines.add_time(time)?;
-            }
-        }
+    // Adds who asked by the line of the next event, and the note on it.
+    fn add_words(&mut self, line: &[u8]) -> Result<(), NoMemory> {
         if self.client.may_be_in(line) {
             self.add_client(line)?;
         }
         if self.note.may_be_in(line) {
             self.lines
                 .add_note(self.note.text(self.alloc, line)?.as_str())?;
+        }
+        Ok(())
+    }
+
+    // Adds the next line, which was not refused.
+    fn add(&mut self, line: &[u8]) -> Result<(), NoMemory> {
+        if is_blank(line) {
+            return self.lines.add_blank();
+        }
+        if let Some(millisecond) = self.time.number(self.alloc, line)? {
+            self.lines.add_moment(millisecond)?;
+        }
+        if self.kept == Kept::All {
+            self.add_words(line)?;
         }
         self.lines.add_event();
         Ok(())
@@ -87,11 +103,13 @@ impl LineReader for NumberedReader {
 ///
 /// Errors, whichever comes first: `Read` for a fault of the input of any kind, an interruption included;
 /// `NoMemory`; and inside `Ok` those of `history::read`. The lines before the one at which it stopped are
-/// taken, and maybe a prefix of that one. Of the lines of the events nothing is promised.
+/// taken, and maybe a prefix of that one. Of the lines of the events, and of what is kept of them, nothing is
+/// promised.
 pub fn read_numbered_from<R: Read>(
     alloc: Global,
     keys: HashKeys,
     input: &mut R,
+    kept: Kept,
 ) -> Result<Result<(History, EventLines), RefusedLine>, InputFault>
     // If the input's bytes are known, the history, or the line and the cause, is what the definition gives
     // for them, as that of `history::read` is.
@@ -110,6 +128,7 @@ pub fn read_numbered_from<R: Read>(
         numbered: NumberedLines {
             alloc,
             lines: EventLines::new(alloc),
+            kept,
             time: LineKey::time(),
             client: LineKey::client(),
             note: LineKey::note(),

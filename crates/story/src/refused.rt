@@ -62,21 +62,20 @@ fn lines_before_cut(refused: &RefusedLine) -> Option<u64> {
 }
 
 /// Adds why a line was refused, and what to do if the text was compressed or cut off.
-pub fn add_refusal(draft: &mut Draft<'_>, refused: &RefusedLine) -> Result<(), NoMemory> {
+pub fn add_refusal(draft: &mut Draft<'_>, refused: &RefusedLine) {
     if refused.fault.line == 1 && refused.line.starts_with(&COMPRESSED) {
         return draft.paragraph(
             "The text is compressed by gzip: `zcat FILE | casbench check` judges it.",
             &[],
         );
     }
-    draft.paragraph(cause_words(refused.fault.cause), &[])?;
+    draft.paragraph(cause_words(refused.fault.cause), &[]);
     if let Some(before) = lines_before_cut(refused) {
         draft.paragraph(
             "It begins like an object and has no end. If no line comes after it, it was cut off, as by a full disk or a recorder that was killed: `head -n {} FILE | casbench check` judges what was recorded before it.",
             &[Number(before)],
-        )?;
+        );
     }
-    Ok(())
 }
 
 // Adds a byte as it can be shown: as its character, or in hexadecimal digits.

@@ -1,11 +1,11 @@
 use std::alloc::Global;
-use story_blocks::Word::{Asked, Count, Id, Number};
+use story_blocks::Word::{Count, Id};
 use story_blocks::{Block, Draft, NOTATION};
 use story_drawings::{
     DrawingKind, Drawn, Kept, Listing, MOST_DESCRIBED, MOST_DRAWN, Named, drawing_of,
     places_reported, rest_of,
 };
-use story_reasons::{Call, OrderBefore, Subject};
+use story_reasons::{Call, OrderBefore, Subject, in_order};
 use version_pair::NoMemory;
 
 // The greatest number of calls that are shown and drawn first, and of versions below them.
@@ -31,8 +31,7 @@ fn joined<'h>(
 ) -> Result<Vec<Call<'h>>, NoMemory> {
     let mut all = Vec::from_slice(alloc, first)?;
     all.extend_from_slice(rest)?;
-    all.sort_unstable_by_key(|call| call.record.call_at);
-    Ok(all)
+    Ok(in_order(all))
 }
 
 impl<'h> ShownCalls<'_, 'h> {
@@ -53,7 +52,8 @@ impl<'h> ShownCalls<'_, 'h> {
             several: self.subjects.len() > 1,
         };
         let drawing = drawing_of(draft, &drawn)?;
-        draft.add(Block::Drawing(drawing))
+        draft.add(Block::Drawing(drawing));
+        Ok(())
     }
 
     // Adds the table of some of the calls that are shown.
@@ -69,7 +69,8 @@ impl<'h> ShownCalls<'_, 'h> {
             named: self.named,
         };
         let table = listing.table(draft, calls)?;
-        draft.add(Block::Calls(table))
+        draft.add(Block::Calls(table));
+        Ok(())
     }
 
     // Adds the rest of the calls, and a drawing of all.
@@ -82,11 +83,13 @@ impl<'h> ShownCalls<'_, 'h> {
         if rest.is_empty() {
             return Ok(());
         }
-        draft.heading("The other calls, in the order of their events")?;
+        draft.heading("The other calls, in the order of their events");
         self.add_table(draft, rest, reported)?;
         if self.kept.calls_count > reported.len() {
-            let left_out = Count(self.kept.calls_count - reported.len());
-            draft.paragraph("Earlier calls left out: {}.", &[left_out])?;
+            draft.paragraph(
+                "Earlier calls left out: {}.",
+                &[Count(self.kept.calls_count - reported.len())],
+            );
         }
         let drawn = self
             .named
@@ -102,34 +105,31 @@ impl<'h> ShownCalls<'_, 'h> {
         if order.steps.is_empty() {
             return Ok(());
         }
-        draft.heading("An order of the document's calls before that reply")?;
+        draft.heading("An order of the document's calls before that reply");
         if order.left_out > 0 {
             draft.paragraph(
                 "Earlier calls of this order, not shown: {}.",
                 &[Count(order.left_out)],
-            )?;
+            );
         }
         let places = places_reported(draft, order)?;
-        draft.add(Block::Order(places))
+        draft.add(Block::Order(places));
+        Ok(())
     }
 
     // Adds the writes that were never answered.
-    fn add_unanswered(&self, draft: &mut Draft<'_>) -> Result<(), NoMemory> {
+    fn add_unanswered(&self, draft: &mut Draft<'_>) {
         if self.kept.unanswered.is_empty() {
-            return Ok(());
+            return;
         }
-        let mut items = Vec::new(draft.alloc);
+        draft.heading("Writes without a reply, which may or may not have happened");
         for call in self.kept.unanswered.iter() {
-            let words = [
-                draft.called(&call.record),
-                Number(call.record.no),
-                Id(call.id),
-                Asked(call.record.op),
-            ];
-            draft.item(&mut items, "line {}, call {} of {}: {}", &words)?;
+            draft.item(
+                "line {0.called}, call {0.no} of {1}: {0.asked}",
+                &[draft.call(&call.record), Id(call.id)],
+            );
         }
-        draft.heading("Writes without a reply, which may or may not have happened")?;
-        draft.items(items, self.kept.unanswered_count, "Left out: {}.")
+        draft.end_list(self.kept.unanswered_count, "Left out: {}.");
     }
 
     // Adds what is folded away, if there is something: the other calls, an order, and the writes without a
@@ -142,15 +142,16 @@ impl<'h> ShownCalls<'_, 'h> {
     ) -> Result<(), NoMemory> {
         draft.add(Block::FoldStart(
             "More: the other calls, an order of the calls before that reply, and the writes without a reply",
-        ))?;
+        ));
         let empty = draft.blocks.len();
         self.add_rest(draft, rest, reported)?;
         self.add_order(draft)?;
-        self.add_unanswered(draft)?;
+        self.add_unanswered(draft);
         if draft.blocks.len() > empty {
-            return draft.add(Block::FoldEnd);
+            draft.add(Block::FoldEnd);
+        } else {
+            let _ = draft.blocks.pop();
         }
-        let _ = draft.blocks.pop();
         Ok(())
     }
 
@@ -162,8 +163,8 @@ impl<'h> ShownCalls<'_, 'h> {
         let most = MOST_DESCRIBED.saturating_sub(first.len());
         let rest = rest_of(draft.alloc, calls, &first, most)?;
         let reported = joined(draft.alloc, &first, &rest)?;
-        draft.heading("The calls that matter, in the order of their events")?;
-        draft.paragraph(NOTATION, &[])?;
+        draft.heading("The calls that matter, in the order of their events");
+        draft.paragraph(NOTATION, &[]);
         self.add_table(draft, &first, &reported)?;
         self.add_drawing(draft, &first, MOST_FIRST)?;
         self.add_folded(draft, &rest, &reported)

@@ -29,25 +29,29 @@ struct Viewed<'a, 'h> {
     calls: &'a [Call<'h>],
 }
 
+// Returns the position of the first of these calls; 0 if there is none.
+fn first_event(calls: &[Call<'_>]) -> usize {
+    match calls.first() {
+        Some(first) => first.record.call_at,
+        None => 0,
+    }
+}
+
 // Adds that the history has no such document.
-fn add_unknown_document(draft: &mut Draft<'_>, view: &View<'_>) -> Result<(), NoMemory> {
+fn add_unknown_document(draft: &mut Draft<'_>, view: &View<'_>) {
     draft.paragraph(
         "The history has no document \"{}\".",
         &[Shown(view.document)],
-    )
+    );
 }
 
 // Adds which calls are shown, and whether it is known when they take effect.
-fn add_shown(
-    draft: &mut Draft<'_>,
-    viewed: Viewed<'_, '_>,
-    order: &Option<OrderBefore>,
-) -> Result<(), NoMemory> {
+fn add_shown(draft: &mut Draft<'_>, viewed: Viewed<'_, '_>, order: &Option<OrderBefore>) {
     let mut last = 0usize;
     for call in viewed.calls {
         last = last.max(end_of(&call.record));
     }
-    let first = viewed.calls.first().map_or(0, |call| call.record.call_at);
+    let first = first_event(viewed.calls);
     let effect = match order {
         Some(_) =>
             "A stroke across a bar shows when its call takes effect, if it has a place in the order that was found.",
@@ -63,13 +67,16 @@ fn add_shown(
             Number(draft.lines.number(last)),
             Text(effect),
         ],
-    )
+    );
 }
 
 // Returns the part of the order with the calls that are shown, the changes between them, and the state before.
 fn part_of(alloc: Global, order: OrderBefore, calls: &[Call<'_>]) -> Result<OrderBefore, NoMemory> {
-    let first = calls.first().map_or(0, |call| call.record.call_at);
-    let last = calls.last().map_or(0, |call| call.record.call_at);
+    let first = first_event(calls);
+    let last = match calls.last() {
+        Some(last) => last.record.call_at,
+        None => 0,
+    };
     let mut part = OrderBefore {
         left_out: order.left_out,
         start: order.start,
@@ -106,7 +113,8 @@ fn add_drawing(
         several: false,
     };
     let drawing = drawing_of(draft, &drawn)?;
-    draft.add(Block::Drawing(drawing))
+    draft.add(Block::Drawing(drawing));
+    Ok(())
 }
 
 // Adds the timeline and what it shows, or that there is nothing to show.
@@ -118,17 +126,28 @@ fn add_viewed(
     event: Option<usize>,
 ) -> Result<(), NoMemory> {
     if viewed.calls.is_empty() {
-        return draft.paragraph(
+        draft.paragraph(
             "No call of the document {} is on one of these lines.",
             &[Id(viewed.id)],
         );
+        return Ok(());
     }
     let order = match order {
         Some(order) => Some(part_of(draft.alloc, order, viewed.calls)?),
         None => None,
     };
-    add_shown(draft, viewed, &order)?;
+    add_shown(draft, viewed, &order);
     add_drawing(draft, viewed, &order, named, event)
+}
+
+// Returns the order of the document with this id, if there is one.
+fn witness_of<'w>(witnesses: &'w [DocWitness], id: &str) -> Option<&'w DocWitness> {
+    for witness in witnesses {
+        if witness.id().as_str() == id {
+            return Some(witness);
+        }
+    }
+    None
 }
 
 /// Adds the timeline of a document of a history that an order explains.
@@ -140,10 +159,10 @@ pub fn add_explained_timeline(
     let Some(view) = view else {
         return Ok(());
     };
-    draft.heading("A timeline of the document")?;
-    let mut all = witnesses.iter();
-    let Some(witness) = all.find(|it| it.id().as_str() == view.document) else {
-        return add_unknown_document(draft, view);
+    draft.heading("A timeline of the document");
+    let Some(witness) = witness_of(witnesses, view.document) else {
+        add_unknown_document(draft, view);
+        return Ok(());
     };
     let calls = calls_in_view(draft, view, witness.id(), witness.records(), None)?;
     let viewed = Viewed {
@@ -173,13 +192,15 @@ fn order_in_view<S: OrderSearch>(
     search: &S,
     viewed: Viewed<'_, '_>,
 ) -> Result<Option<OrderBefore>, NoMemory> {
-    let first = viewed.calls.first().map_or(0, |call| call.record.call_at);
+    let first = first_event(viewed.calls);
     if !unexplained.before_shown || first >= unexplained.event {
         return Ok(None);
     }
-    let records = viewed.records.iter();
+    let before = viewed
+        .records
+        .partition_point(|record| record.call_at < first);
     let extent = OrderExtent {
-        least: records.filter(|record| first <= record.call_at).count(),
+        least: viewed.records.len().saturating_sub(before),
         most: usize::MAX,
     };
     order_before(
@@ -224,7 +245,7 @@ pub fn add_failing_timeline<S: OrderSearch>(
     let Some(view) = view else {
         return Ok(());
     };
-    draft.heading("A timeline of the document")?;
+    draft.heading("A timeline of the document");
     let whole = unexplained.whole;
     match document_of(whole, view.document) {
         Some(doc) if doc < whole.docs() => {
@@ -235,6 +256,9 @@ pub fn add_failing_timeline<S: OrderSearch>(
             };
             add_timeline_of(draft, unexplained, search, named, view, document)
         }
-        _ => add_unknown_document(draft, view),
+        _ => {
+            add_unknown_document(draft, view);
+            Ok(())
+        }
     }
 }

@@ -1,10 +1,9 @@
 use crate::drawing::Drawing;
 use crate::head::Head;
 use crate::reported_line::ReportedLine;
-use std::fmt::{self, Debug};
 
 /// How a call stands out among the others.
-#[derive(Clone, Copy, PartialEq, Eq)]
+#[derive(Clone, Copy)]
 pub enum Mark {
     /// It doesn't.
     Plain,
@@ -89,11 +88,4 @@ pub struct Story {
     /// What it is of, which a page has at its top.
     pub head: Head,
     pub blocks: Vec<Block>,
-}
-
-impl Debug for Story {
-    fn fmt<W: fmt::Write>(&self, f: &mut fmt::Formatter<W>) -> fmt::Result {
-        let title = self.title.as_str();
-        write!(f, "Story {{ title: {title:?}, .. }}")
-    }
 }

@@ -5,14 +5,14 @@ use version_pair::NoMemory;
 const MOST_COMPARED: usize = 64;
 
 // An event whose line says who asked: its position, and the number of the name.
-#[derive(Clone, Copy, Debug)]
+#[derive(Clone, Copy)]
 struct Asking {
     place: usize,
     name: usize,
 }
 
 /// Which clients asked, by the positions of the events whose lines say so.
-#[derive(Debug, Drop)]
+#[derive(Drop)]
 pub struct Clients {
     // Each name once, unless more than 64 clients take turns.
     names: Vec<String>,
@@ -32,9 +32,12 @@ impl Clients {
     // Returns the number of the name, if it is one of the last.
     fn recent(&self, name: &str) -> Option<usize> {
         let first = self.names.len().saturating_sub(MOST_COMPARED);
-        let mut names = self.names.iter().skip(first);
-        let place = names.position(|known| known.as_str() == name)?;
-        Some(first.saturating_add(place))
+        for (i, known) in self.names.iter().enumerate().skip(first) {
+            if known.as_str() == name {
+                return Some(i);
+            }
+        }
+        None
     }
 
     /// Adds the name of who asked by the event at this position, which is above those before; nothing if it is
@@ -58,9 +61,7 @@ impl Clients {
     pub fn of(&self, place: usize) -> Option<&str> {
         let before = self.askings.partition_point(|asking| asking.place < place);
         match self.askings.get(before) {
-            Some(asking) if asking.place == place => {
-                self.names.get(asking.name).map(|name| name.as_str())
-            }
+            Some(asking) if asking.place == place => { Some(self.names.get(asking.name)?.as_str()) }
             _ => None,
         }
     }

@@ -2,21 +2,24 @@ use crate::block::{Block, Story};
 use crate::event_lines::EventLines;
 use crate::head::{Head, HistoryCounts};
 use crate::word::Word::{self, Count, Line};
-use crate::word::{add_sentence, sentence_of};
+use crate::word::{LinedCall, add_sentences};
 use events::Rec;
-use std::alloc::Global;
+use std::alloc::{AllocError, Global};
 use std::mem;
 use version_pair::NoMemory;
 
-/// An explanation that is being written.
+/// An explanation that is being written. Whether memory was enough for all that was added is known at its end.
 #[derive(Drop)]
 pub struct Draft<'l> {
     pub alloc: Global,
     /// The lines of the events that it names.
     pub lines: &'l EventLines,
     pub blocks: Vec<Block>,
-    // The paragraph that is being written.
+    // The paragraph and the list that are being written.
     words: String,
+    items: Vec<String>,
+    // Whether memory was not enough for something.
+    is_cut: bool,
 }
 
 impl<'l> Draft<'l> {
@@ -27,65 +30,9 @@ impl<'l> Draft<'l> {
             lines,
             blocks: Vec::new(alloc),
             words: String::new(alloc),
+            items: Vec::new(alloc),
+            is_cut: false,
         }
-    }
-
-    /// Returns the template with the words at its places.
-    pub fn sentence(&self, template: &str, words: &[Word<'_>]) -> Result<String, NoMemory> {
-        sentence_of(self.alloc, template, words)
-    }
-
-    /// Adds the template, with the words at its places, to a list.
-    pub fn item(
-        &self,
-        items: &mut Vec<String>,
-        template: &str,
-        words: &[Word<'_>],
-    ) -> Result<(), NoMemory> {
-        items.push(self.sentence(template, words)?)?;
-        Ok(())
-    }
-
-    /// Adds the template, with the words at its places, to the paragraph that is being written.
-    pub fn say(&mut self, template: &str, words: &[Word<'_>]) -> Result<(), NoMemory> {
-        add_sentence(&mut self.words, template, words)
-    }
-
-    /// Returns the paragraph that is being written, which ends.
-    pub fn said(&mut self) -> String {
-        mem::replace(&mut self.words, String::new(self.alloc))
-    }
-
-    /// Adds a block.
-    pub fn add(&mut self, block: Block) -> Result<(), NoMemory> {
-        self.blocks.push(block)?;
-        Ok(())
-    }
-
-    /// Adds a heading.
-    pub fn heading(&mut self, heading: &'static str) -> Result<(), NoMemory> {
-        self.add(Block::Heading(heading))
-    }
-
-    /// Adds the template, with the words at its places, as a paragraph.
-    pub fn paragraph(&mut self, template: &str, words: &[Word<'_>]) -> Result<(), NoMemory> {
-        let sentence = self.sentence(template, words)?;
-        self.add(Block::Paragraph(sentence))
-    }
-
-    /// Adds the items, which are the first of that many, and then in a paragraph how many more there are.
-    pub fn items(
-        &mut self,
-        items: Vec<String>,
-        count: usize,
-        more_words: &str,
-    ) -> Result<(), NoMemory> {
-        let shown = items.len();
-        self.add(Block::Items(items))?;
-        if count > shown {
-            return self.paragraph(more_words, &[Count(count - shown)]);
-        }
-        Ok(())
     }
 
     /// Returns the line of an event.
@@ -93,26 +40,95 @@ impl<'l> Draft<'l> {
         Line(self.lines.line(place))
     }
 
-    /// Returns the line of the call.
-    pub fn called(&self, record: &Rec) -> Word<'static> {
-        self.line(record.call_at)
+    /// Returns a call, of which a place of a sentence names a part.
+    pub fn call(&self, record: &Rec) -> Word<'static> {
+        Word::Call(LinedCall {
+            record: *record,
+            called: self.lines.line(record.call_at),
+            replied: self.lines.reply(record),
+        })
     }
 
-    /// Returns the line of the reply to the call; that of the call if there is no reply.
-    pub fn replied(&self, record: &Rec) -> Word<'static> {
-        Line(self.lines.reply(record))
+    /// Adds sentences to the paragraph that is being written.
+    pub fn say(&mut self, templates: &[&str], words: &[Word<'_>]) {
+        if add_sentences(&mut self.words, templates, words).is_err() {
+            self.is_cut = true;
+        }
     }
 
-    /// Returns the explanation with this title, of a history with these counts.
-    pub fn finish(self, title: String, counts: Option<HistoryCounts>) -> Story {
+    /// Returns the paragraph that is being written, which ends.
+    pub fn said(&mut self) -> String {
+        mem::replace(&mut self.words, String::new(self.alloc))
+    }
+
+    /// Returns a sentence as a text of its own.
+    pub fn text(&mut self, template: &str, words: &[Word<'_>]) -> String {
+        self.say(&[template], words);
+        self.said()
+    }
+
+    /// Ends the paragraph that is being written.
+    pub fn end_paragraph(&mut self) {
+        let words = self.said();
+        self.add(Block::Paragraph(words));
+    }
+
+    /// Ends the paragraph that is being written, which is an item of the list.
+    pub fn end_item(&mut self) {
+        let words = self.said();
+        if self.items.push(words).is_err() {
+            self.is_cut = true;
+        }
+    }
+
+    /// Ends the list, whose items are the first of that many; how many more there are is said in a paragraph.
+    pub fn end_list(&mut self, count: usize, more_words: &str) {
+        let shown = self.items.len();
+        let items = mem::replace(&mut self.items, Vec::new(self.alloc));
+        self.add(Block::Items(items));
+        if count > shown {
+            self.paragraph(more_words, &[Count(count - shown)]);
+        }
+    }
+
+    /// Adds a block.
+    pub fn add(&mut self, block: Block) {
+        if self.blocks.push(block).is_err() {
+            self.is_cut = true;
+        }
+    }
+
+    /// Adds a heading.
+    pub fn heading(&mut self, heading: &'static str) {
+        self.add(Block::Heading(heading));
+    }
+
+    /// Adds a sentence as a paragraph.
+    pub fn paragraph(&mut self, template: &str, words: &[Word<'_>]) {
+        self.say(&[template], words);
+        self.end_paragraph();
+    }
+
+    /// Adds a sentence as an item of the list.
+    pub fn item(&mut self, template: &str, words: &[Word<'_>]) {
+        self.say(&[template], words);
+        self.end_item();
+    }
+
+    /// Returns the explanation with this title, of a history with these counts; an error if memory was not enough for
+    /// a part of it.
+    pub fn finish(self, title: String, counts: Option<HistoryCounts>) -> Result<Story, NoMemory> {
+        if self.is_cut {
+            return Err(AllocError);
+        }
         let head = Head {
             counts,
             span: self.lines.span(),
         };
-        Story {
+        Ok(Story {
             title,
             head,
             blocks: self.blocks,
-        }
+        })
     }
 }

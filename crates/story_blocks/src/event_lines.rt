@@ -8,23 +8,38 @@ use std::alloc::Global;
 use version_pair::NoMemory;
 
 /// A note, and the position of the event on whose line it is.
-#[derive(Debug, Drop)]
+#[derive(Drop)]
 pub struct Note {
     pub place: usize,
     pub text: String,
 }
 
+// When the line of an event was written.
+#[derive(Clone, Copy)]
+struct Moment {
+    place: usize,
+    // In milliseconds since 1970.
+    millisecond: i64,
+}
+
+impl Moment {
+    // Returns it as a time; `None` if it is no time that has a date.
+    fn time(&self) -> Option<Timestamp> {
+        Timestamp::from_millisecond(self.millisecond).ok()
+    }
+}
+
 /// The lines of a text that its events are on, and when these lines were written, who asked and what was noted, if
 /// they say so. Nothing is promised of them: explanations look at them, and some of these are tested.
-#[derive(Debug, Drop)]
+#[derive(Drop)]
 pub struct EventLines {
     alloc: Global,
     // The number of events.
     events: usize,
     // For each blank line, the number of events before it; rising.
     blank: Vec<usize>,
-    // The events whose lines say when they were written, by their positions; rising.
-    times: Vec<(usize, Timestamp)>,
+    // Of the events whose lines say when they were written, by their positions; rising.
+    moments: Vec<Moment>,
     clients: Clients,
     // The notes, by their positions; rising.
     notes: Vec<Note>,
@@ -37,7 +52,7 @@ impl EventLines {
             alloc,
             events: 0,
             blank: Vec::new(alloc),
-            times: Vec::new(alloc),
+            moments: Vec::new(alloc),
             clients: Clients::new(alloc),
             notes: Vec::new(alloc),
         }
@@ -49,9 +64,10 @@ impl EventLines {
         Ok(())
     }
 
-    /// Adds when the line of the next event was written.
-    pub fn add_time(&mut self, time: Timestamp) -> Result<(), NoMemory> {
-        self.times.push((self.events, time))?;
+    /// Adds when the line of the next event was written, in milliseconds since 1970.
+    pub fn add_moment(&mut self, millisecond: i64) -> Result<(), NoMemory> {
+        let place = self.events;
+        self.moments.push(Moment { place, millisecond })?;
         Ok(())
     }
 
@@ -85,36 +101,41 @@ impl EventLines {
     }
 
     // Whether the first and the last line aren't both of the time's date.
-    fn is_dated(&self, time: &Timestamp) -> bool {
-        let date = date_of(*time);
-        !self
-            .span()
-            .and_then(|span| span.date())
-            .is_some_and(|it| it == date)
+    fn is_dated(&self, time: Timestamp) -> bool {
+        match self.span() {
+            Some(span) => span.date() != Some(date_of(time)),
+            None => true,
+        }
+    }
+
+    // Returns when the line of the event at this position was written, if it says so.
+    fn time(&self, place: usize) -> Option<Timestamp> {
+        let before = self.moments.partition_point(|moment| moment.place < place);
+        match self.moments.get(before) {
+            Some(moment) if moment.place == place => moment.time(),
+            _ => None,
+        }
     }
 
     /// Returns the line of the event at this position, as sentences name it.
     pub fn line(&self, place: usize) -> ReportedLine {
         let number = self.number(place);
-        let before = self.times.partition_point(|added| added.0 < place);
-        match self.times[before..].first() {
-            Some((added, time)) if *added == place => ReportedLine {
-                number,
-                time: Some(*time),
-                is_dated: self.is_dated(time),
-            },
-            _ => ReportedLine {
-                number,
-                time: None,
-                is_dated: false,
-            },
+        let time = self.time(place);
+        let is_dated = match time {
+            Some(time) => self.is_dated(time),
+            None => false,
+        };
+        ReportedLine {
+            number,
+            time,
+            is_dated,
         }
     }
 
     /// Returns the line of the reply to the call, as sentences name it; that of the call if there is no reply.
     pub fn reply(&self, record: &Rec) -> ReportedLine {
-        match record.heard.map(|heard| heard.0) {
-            Some(place) => self.line(place),
+        match record.heard {
+            Some(heard) => self.line(heard.0),
             None => self.line(record.call_at),
         }
     }
@@ -126,12 +147,16 @@ impl EventLines {
 
     /// Returns when the first line that says so was written, and the last one.
     pub fn span(&self) -> Option<Span> {
-        let first = self.times.first()?;
-        let last = self.times.last()?;
-        Some(Span {
-            first: first.1,
-            last: last.1,
-        })
+        for first in self.moments.iter() {
+            if let Some(first) = first.time() {
+                for last in self.moments.iter().rev() {
+                    if let Some(last) = last.time() {
+                        return Some(Span { first, last });
+                    }
+                }
+            }
+        }
+        None
     }
 
     /// Returns who made the call, if its line says so.

@@ -3,8 +3,8 @@
 //!
 //! ```text
 //! let mut draft = Draft::new(alloc, &lines);
-//! draft.paragraph("Call {} was answered on line {}.", &[Number(call.no), draft.replied(&call)])?;
-//! let story = draft.finish(title, Some(counts));
+//! draft.paragraph("Call {0.no} was answered on line {0.replied}.", &[draft.call(&call)]);
+//! let story = draft.finish(title, Some(counts))?; // an error if memory was not enough for a part of it
 //! let text = plain_text(alloc, &story)?;
 //! ```
 #![tactic(auto)]
@@ -39,6 +39,4 @@ pub use page_facts::About;
 pub use page_pieces::page_of;
 pub use plain::plain_text;
 pub use view::View;
-pub use word::{
-    NOTATION, Shower, Word, add_sentence, add_shown, sentence_of, separator, unreported_kind,
-};
+pub use word::{NOTATION, Word, add_shown, unreported_kind};

@@ -1,8 +1,8 @@
 use crate::clock::time_of_day;
 use crate::head::{Head, HistoryCounts, Span};
 use crate::view::View;
-use crate::word::Word::{Count, Number, Shown, Text};
-use crate::word::{Word, add_sentence, sentence_of};
+use crate::word::Word::{Count, Number, Shown};
+use crate::word::{Word, add_sentences};
 use doc_register::Conflicts;
 use evidence::RulingOut;
 use std::alloc::Global;
@@ -33,17 +33,6 @@ pub struct Fact {
     pub value: String,
 }
 
-// Adds the options that ask for a timeline.
-fn add_view(text: &mut String, view: &View<'_>) -> Result<(), NoMemory> {
-    add_sentence(text, " --document {}", &[Shown(view.document)])?;
-    if view.is_whole() {
-        return Ok(());
-    }
-    let first = Number(view.first);
-    let last = Number(view.last);
-    add_sentence(text, " --lines {}-{}", &[first, last])
-}
-
 // The facts that are collected.
 #[derive(Drop)]
 struct Facts {
@@ -52,14 +41,15 @@ struct Facts {
 }
 
 impl Facts {
-    // Adds a fact, its value as a template with words.
+    // Adds a fact, its value as templates with words.
     fn add(
         &mut self,
         name: &'static str,
-        template: &str,
+        templates: &[&str],
         words: &[Word<'_>],
     ) -> Result<(), NoMemory> {
-        let value = sentence_of(self.alloc, template, words)?;
+        let mut value = String::new(self.alloc);
+        add_sentences(&mut value, templates, words)?;
         self.list.push(Fact { name, value })?;
         Ok(())
     }
@@ -84,7 +74,7 @@ impl Facts {
     fn add_counts(&mut self, counts: HistoryCounts) -> Result<(), NoMemory> {
         self.add(
             "history",
-            "events: {}; calls: {}; documents: {}",
+            &["events: {}; calls: {}; documents: {}"],
             &[
                 Count(counts.events),
                 Count(counts.calls),
@@ -96,21 +86,35 @@ impl Facts {
     // Adds the options.
     fn add_options(&mut self, about: &About<'_>) -> Result<(), NoMemory> {
         let reading = match about.conflicts {
-            Conflicts::Plain => "plain",
-            Conflicts::Maybe => "maybe",
+            Conflicts::Plain => "--conflicts plain ",
+            Conflicts::Maybe => "--conflicts maybe ",
         };
         let ruling = match about.ruling_out {
             RulingOut::On => "--rule-out ",
             RulingOut::Off => "",
         };
-        let words = [Text(reading), Text(ruling), Count(about.workers)];
-        let mut value = sentence_of(self.alloc, "--conflicts {} {}--workers {}", &words)?;
-        if let Some(view) = &about.view {
-            add_view(&mut value, view)?;
-        }
-        let name = "options";
-        self.list.push(Fact { name, value })?;
-        Ok(())
+        let Some(view) = &about.view else {
+            return self.add(
+                "options",
+                &[reading, ruling, "--workers {}"],
+                &[Count(about.workers)],
+            );
+        };
+        let lines = if view.is_whole() {
+            ""
+        } else {
+            " --lines {}-{}"
+        };
+        self.add(
+            "options",
+            &[reading, ruling, "--workers {} --document \"{}\"", lines],
+            &[
+                Count(about.workers),
+                Shown(view.document),
+                Number(view.first),
+                Number(view.last),
+            ],
+        )
     }
 }
 
@@ -129,8 +133,8 @@ pub fn facts_of(alloc: Global, head: &Head, about: &About<'_>) -> Result<Vec<Fac
         list: Vec::new(alloc),
     };
     match about.file {
-        Some(path) => facts.add("file", "{}", &[Shown(name_of(path))])?,
-        None => facts.add("file", "standard input", &[])?,
+        Some(path) => facts.add("file", &["{}"], &[Shown(name_of(path))])?,
+        None => facts.add("file", &["standard input"], &[])?,
     }
     if let Some(span) = head.span {
         facts.add_span(span)?;
@@ -139,6 +143,6 @@ pub fn facts_of(alloc: Global, head: &Head, about: &About<'_>) -> Result<Vec<Fac
         facts.add_counts(counts)?;
     }
     facts.add_options(about)?;
-    facts.add("program", PROGRAM, &[])?;
+    facts.add("program", &[PROGRAM], &[])?;
     Ok(facts.list)
 }

@@ -3,35 +3,24 @@ ghost use Rattle.page.specs.Pages.{IsPage};
 
 use crate::block::{Block, Story};
 use crate::page_facts::{About, facts_of};
+use crate::pieces::Part::{Fixed, Text, Words};
 use crate::pieces::Pieces;
-use page::{Markup, Piece, page_bytes};
-use std::alloc::Global;
+use page::{Markup, page_bytes};
+use std::alloc::{AllocError, Global};
 use version_pair::NoMemory;
 
 impl Pieces {
     // Adds a list.
-    fn items(&mut self, items: &[String]) -> Result<(), NoMemory> {
-        self.fixed(Markup::ListStart)?;
+    fn items(&mut self, items: &[String]) {
+        self.fixed(Markup::ListStart);
         for item in items {
-            self.within(Markup::ItemStart, item.as_str(), Markup::ItemEnd)?;
+            self.within(Markup::ItemStart, item.as_str(), Markup::ItemEnd);
         }
-        self.fixed(Markup::ListEnd)
-    }
-
-    // Adds what the page is about.
-    fn facts(&mut self, story: &Story, about: &About<'_>) -> Result<(), NoMemory> {
-        let facts = facts_of(self.alloc, &story.head, about)?;
-        self.fixed(Markup::FactsStart)?;
-        for fact in facts.iter() {
-            self.within(Markup::FactStart, fact.name, Markup::FactBreak)?;
-            self.text(fact.value.as_str())?;
-            self.fixed(Markup::FactEnd)?;
-        }
-        self.fixed(Markup::FactsEnd)
+        self.fixed(Markup::ListEnd);
     }
 
     // Adds a block of an explanation.
-    fn block(&mut self, block: &Block) -> Result<(), NoMemory> {
+    fn block(&mut self, block: &Block) {
         match block {
             Block::Heading(heading) => {
                 self.within(Markup::HeadingStart, heading, Markup::HeadingEnd)
@@ -47,30 +36,35 @@ impl Pieces {
             Block::FoldEnd => self.fixed(Markup::FoldEnd),
         }
     }
-}
 
-// Returns the pieces of the page of an explanation, with the line of the check at its head.
-fn pieces_of(
-    alloc: Global,
-    line: &str,
-    story: &Story,
-    about: &About<'_>,
-) -> Result<Vec<Piece>, NoMemory> {
-    let mut pieces = Pieces {
-        alloc,
-        list: Vec::new(alloc),
-    };
-    pieces.fixed(Markup::PageStart)?;
-    pieces.fixed(Markup::Style)?;
-    pieces.fixed(Markup::BodyStart)?;
-    pieces.within(Markup::TitleStart, story.title.as_str(), Markup::TitleEnd)?;
-    pieces.within(Markup::LineStart, line.trim_end(), Markup::LineEnd)?;
-    pieces.facts(story, about)?;
-    for block in story.blocks.iter() {
-        pieces.block(block)?;
+    // Adds the head of a page: its title, the line of the check, and what it is about.
+    fn page_head(&mut self, line: &str, story: &Story, about: &About<'_>) -> Result<(), NoMemory> {
+        self.add(&[
+            Fixed(Markup::PageStart),
+            Fixed(Markup::Style),
+            Fixed(Markup::BodyStart),
+            Fixed(Markup::TitleStart),
+            Text(story.title.as_str()),
+            Fixed(Markup::TitleEnd),
+        ]);
+        self.add(&[
+            Fixed(Markup::LineStart),
+            Text(line.trim_end()),
+            Fixed(Markup::LineEnd),
+            Fixed(Markup::FactsStart),
+        ]);
+        for fact in facts_of(self.alloc, &story.head, about)?.iter() {
+            self.add(&[
+                Fixed(Markup::FactStart),
+                Words(fact.name),
+                Fixed(Markup::FactBreak),
+                Text(fact.value.as_str()),
+                Fixed(Markup::FactEnd),
+            ]);
+        }
+        self.fixed(Markup::FactsEnd);
+        Ok(())
     }
-    pieces.fixed(Markup::PageEnd)?;
-    Ok(pieces.list)
 }
 
 /// Returns the page of an explanation, with the line of the check and what the page is about at its head.
@@ -83,7 +77,19 @@ pub fn page_of(
     // The bytes are those of a page: pieces of markup, numbers, and escaped texts.
     ensures { IfOk result (λ page. IsPage page.items) }
 {
-    let pieces = pieces_of(alloc, line, story, about)?;
-    let page = page_bytes(alloc, &pieces)?;
+    let mut pieces = Pieces {
+        alloc,
+        list: Vec::new(alloc),
+        is_cut: false,
+    };
+    pieces.page_head(line, story, about)?;
+    for block in story.blocks.iter() {
+        pieces.block(block);
+    }
+    pieces.fixed(Markup::PageEnd);
+    if pieces.is_cut {
+        return Err(AllocError);
+    }
+    let page = page_bytes(alloc, &pieces.list)?;
     Ok(page)
 }

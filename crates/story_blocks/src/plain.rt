@@ -1,8 +1,6 @@
-use crate::block::{
-    Block, CallReported, CallRow, CallTable, Mark, NoteReported, PlaceReported, Story,
-};
+use crate::block::{Block, CallReported, CallRow, CallTable, Mark, PlaceReported, Story};
 use crate::word::Word::{Line, Number, Phrase, Text};
-use crate::word::add_sentence;
+use crate::word::add_sentences;
 use std::alloc::Global;
 use version_pair::NoMemory;
 
@@ -17,48 +15,53 @@ fn mark_sign(mark: Mark) -> &'static str {
 
 // Adds the line of a call.
 fn add_call(text: &mut String, call: &CallReported) -> Result<(), NoMemory> {
-    let sign = Text(mark_sign(call.mark));
-    let asked = Phrase(call.asked.as_str());
-    let words = [sign, Line(call.line), Number(call.no)];
-    add_sentence(text, "{} line {}, call {}", &words)?;
-    if !call.client.is_empty() {
-        add_sentence(text, " by {}", &[Phrase(call.client.as_str())])?;
-    }
-    add_sentence(text, ": {} -> ", &[asked])?;
-    if let Some(line) = call.replied {
-        add_sentence(text, "line {}: ", &[Line(line)])?;
-    }
-    text.push_str(call.answered.as_str())?;
-    if !call.open_with.is_empty() {
-        let open = Phrase(call.open_with.as_str());
-        add_sentence(text, " (open at the same time: {})", &[open])?;
-    }
-    text.push_str("\n")
-}
-
-// Adds the line of a note.
-fn add_note(text: &mut String, note: &NoteReported) -> Result<(), NoMemory> {
-    let words = [Line(note.line), Phrase(note.text.as_str())];
-    add_sentence(text, "  line {}, note: {}\n", &words)
-}
-
-// Whether the row is of a call that stands out.
-fn is_marked(row: &CallRow) -> bool {
-    match row {
-        CallRow::Call(call) => call.mark != Mark::Plain,
-        CallRow::Note(_) => false,
-    }
+    let sign = mark_sign(call.mark);
+    let (client, open) = (call.client.as_str(), call.open_with.as_str());
+    let (reply_words, reply) = match call.replied {
+        Some(line) => ("line {}: ", Line(line)),
+        None => ("{}", Text("")),
+    };
+    let templates = [
+        "{} line {}, call {}",
+        if client.is_empty() { "{}" } else { " by {}" },
+        ": {} -> ",
+        reply_words,
+        "{}",
+        if open.is_empty() {
+            "\n"
+        } else {
+            " (open at the same time: {})\n"
+        },
+    ];
+    let words = [
+        Text(sign),
+        Line(call.line),
+        Number(call.no),
+        Phrase(client),
+        Phrase(call.asked.as_str()),
+        reply,
+        Phrase(call.answered.as_str()),
+        Phrase(open),
+    ];
+    add_sentences(text, &templates, &words)
 }
 
 // Adds the lines of the calls.
 fn add_calls(text: &mut String, table: &CallTable) -> Result<(), NoMemory> {
+    let mut is_marked = false;
     for row in table.rows.iter() {
         match row {
-            CallRow::Call(call) => add_call(text, call)?,
-            CallRow::Note(note) => add_note(text, note)?,
+            CallRow::Call(call) => {
+                add_call(text, call)?;
+                is_marked = is_marked || !matches!(call.mark, Mark::Plain);
+            }
+            CallRow::Note(note) => {
+                let words = [Line(note.line), Phrase(note.text.as_str())];
+                add_sentences(text, &["  line {}, note: {}\n"], &words)?;
+            }
         }
     }
-    if table.rows.iter().any(|row| is_marked(row)) {
+    if is_marked {
         text.push_str("! the reply that broke it; * a call that the evidence or a reason names\n")?;
     }
     Ok(())
@@ -67,13 +70,12 @@ fn add_calls(text: &mut String, table: &CallTable) -> Result<(), NoMemory> {
 // Adds the lines of an order.
 fn add_places(text: &mut String, places: &[PlaceReported]) -> Result<(), NoMemory> {
     for place in places {
-        let asked = Phrase(place.asked.as_str());
-        let after = Phrase(place.after.as_str());
-        add_sentence(
-            text,
-            "  call {}: {} -> {}\n",
-            &[Number(place.no), asked, after],
-        )?;
+        let words = [
+            Number(place.no),
+            Phrase(place.asked.as_str()),
+            Phrase(place.after.as_str()),
+        ];
+        add_sentences(text, &["  call {}: {} -> {}\n"], &words)?;
     }
     Ok(())
 }
@@ -81,7 +83,7 @@ fn add_places(text: &mut String, places: &[PlaceReported]) -> Result<(), NoMemor
 // Adds the items.
 fn add_items(text: &mut String, items: &[String]) -> Result<(), NoMemory> {
     for item in items {
-        add_sentence(text, "  {}\n", &[Phrase(item.as_str())])?;
+        add_sentences(text, &["  {}\n"], &[Phrase(item.as_str())])?;
     }
     Ok(())
 }
@@ -89,8 +91,8 @@ fn add_items(text: &mut String, items: &[String]) -> Result<(), NoMemory> {
 // Adds a block; plain text leaves out drawings and folds.
 fn add_block(text: &mut String, block: &Block) -> Result<(), NoMemory> {
     match block {
-        Block::Heading(heading) => add_sentence(text, "\n{}:\n", &[Text(heading)]),
-        Block::Paragraph(words) => add_sentence(text, "{}\n", &[Phrase(words.as_str())]),
+        Block::Heading(heading) => add_sentences(text, &["\n{}:\n"], &[Text(heading)]),
+        Block::Paragraph(words) => add_sentences(text, &["{}\n"], &[Phrase(words.as_str())]),
         Block::Items(items) => add_items(text, items),
         Block::Calls(table) => add_calls(text, table),
         Block::Order(places) => add_places(text, places),
@@ -101,7 +103,7 @@ fn add_block(text: &mut String, block: &Block) -> Result<(), NoMemory> {
 /// Returns the explanation as plain text, which begins with an empty line.
 pub fn plain_text(alloc: Global, story: &Story) -> Result<String, NoMemory> {
     let mut text = String::new(alloc);
-    add_sentence(&mut text, "\n{}\n", &[Phrase(story.title.as_str())])?;
+    add_sentences(&mut text, &["\n{}\n"], &[Phrase(story.title.as_str())])?;
     if let Some(date) = story.head.span.and_then(|span| span.date()) {
         write!(
             text,

@@ -1,7 +1,7 @@
 use crate::reported_line::ReportedLine;
 use doc_register::{Conflicts, DocState, Op, Reply};
+use events::Rec;
 use ruled_out::Stage;
-use std::alloc::Global;
 use version_pair::{DocId, NoMemory, Pair};
 
 /// How a version is written.
@@ -19,8 +19,8 @@ pub enum Word<'a> {
     Shown(&'a str),
     /// A document's id in quotes, as it can be shown.
     Id(&'a DocId),
-    /// A version: its term and its sequence number.
-    Version(Pair),
+    /// A version: its term and its sequence number; nothing if there is none.
+    Version(Option<Pair>),
     /// What was asked.
     Asked(Op),
     /// What was heard of a call.
@@ -29,16 +29,17 @@ pub enum Word<'a> {
     State(DocState),
     /// How far a document has come, behind `it had`.
     Reached(Stage),
-    /// Which call shows a version, in brackets behind it; nothing if no call does.
-    ShownBy(Option<Shower>),
+    /// A call, of which the place names a part.
+    Call(LinedCall),
 }
 
-/// A call whose reply shows a version.
+/// A call with its lines.
 #[derive(Clone, Copy)]
-pub struct Shower {
-    pub no: u64,
-    /// The line of the reply.
-    pub line: ReportedLine,
+pub struct LinedCall {
+    pub record: Rec,
+    pub called: ReportedLine,
+    /// The line of the reply; that of the call if there is no reply.
+    pub replied: ReportedLine,
 }
 
 // Adds a version after what it is about.
@@ -46,6 +47,16 @@ fn add_version(text: &mut String, before: &str, pair: Pair) -> Result<(), NoMemo
     let term = pair.term();
     let seq = pair.seq();
     write!(text, "{before}{term}/{seq}")
+}
+
+// Adds a number.
+fn add_number(text: &mut String, number: u64) -> Result<(), NoMemory> {
+    write!(text, "{number}")
+}
+
+// Adds a line.
+fn add_line(text: &mut String, line: ReportedLine) -> Result<(), NoMemory> {
+    write!(text, "{line}")
 }
 
 // Adds what was asked.
@@ -139,16 +150,6 @@ fn add_id(text: &mut String, id: &DocId) -> Result<(), NoMemory> {
     text.push('"')
 }
 
-// Adds which call shows a version.
-fn add_shower(text: &mut String, shower: Option<Shower>) -> Result<(), NoMemory> {
-    let Some(shower) = shower else {
-        return Ok(());
-    };
-    let no = shower.no;
-    let line = shower.line;
-    write!(text, " (call {no}, line {line})")
-}
-
 // Adds what was heard of a call.
 fn add_heard(text: &mut String, heard: Option<(usize, Reply)>) -> Result<(), NoMemory> {
     match heard {
@@ -157,44 +158,109 @@ fn add_heard(text: &mut String, heard: Option<(usize, Reply)>) -> Result<(), NoM
     }
 }
 
-// Adds a word.
-fn add_word(text: &mut String, word: &Word<'_>) -> Result<(), NoMemory> {
+// Adds a call whose reply shows a version, in brackets behind the version.
+fn add_shower(text: &mut String, call: &LinedCall) -> Result<(), NoMemory> {
+    let no = call.record.no;
+    let line = call.replied;
+    write!(text, " (call {no}, line {line})")
+}
+
+// Returns the number that a reply shows.
+fn number_in(heard: Option<(usize, Reply)>) -> u64 {
+    match heard {
+        Some((_, Reply::Found { k, .. })) => k,
+        _ => 0,
+    }
+}
+
+// Returns the version that a reply shows, if it shows one.
+fn version_in(heard: Option<(usize, Reply)>) -> Option<Pair> {
+    match heard {
+        Some(heard) => heard.1.pair(),
+        None => None,
+    }
+}
+
+// Adds a version if there is one.
+fn add_version_if(text: &mut String, pair: Option<Pair>) -> Result<(), NoMemory> {
+    match pair {
+        Some(pair) => add_version(text, "", pair),
+        None => Ok(()),
+    }
+}
+
+// Adds the part of a call that has this name.
+fn add_part(text: &mut String, call: &LinedCall, name: &str) -> Result<(), NoMemory> {
+    let heard = call.record.heard;
+    match name {
+        "asked" => add_asked(text, call.record.op),
+        "condition" => add_version_if(text, call.record.op.condition()),
+        "called" => add_line(text, call.called),
+        "replied" => add_line(text, call.replied),
+        "heard" => add_heard(text, heard),
+        "version" => add_version_if(text, version_in(heard)),
+        "k" => add_number(text, number_in(heard)),
+        "shown" => add_shower(text, call),
+        _ => add_number(text, call.record.no),
+    }
+}
+
+// Adds a word; of a call the part that has this name.
+fn add_word(text: &mut String, word: &Word<'_>, part: &str) -> Result<(), NoMemory> {
     match *word {
         Word::Text(words) => text.push_str(words),
         Word::Phrase(words) => text.push_str(words),
-        Word::Number(number) => write!(text, "{number}"),
-        Word::Count(count) => write!(text, "{count}"),
-        Word::Line(line) => write!(text, "{line}"),
+        Word::Number(number) => add_number(text, number),
+        Word::Count(count) => add_number(text, count as u64),
+        Word::Line(line) => add_line(text, line),
         Word::Shown(words) => add_shown(text, words),
         Word::Id(id) => add_id(text, id),
-        Word::Version(pair) => add_version(text, "", pair),
+        Word::Version(pair) => add_version_if(text, pair),
         Word::Asked(op) => add_asked(text, op),
         Word::Heard(heard) => add_heard(text, heard),
         Word::State(state) => add_state(text, state),
         Word::Reached(stage) => add_reached(text, stage),
-        Word::ShownBy(shower) => add_shower(text, shower),
+        Word::Call(call) => add_part(text, &call, part),
     }
 }
 
-/// Adds a sentence: the template with the words at its places, which are the `{}` in it. That there is a word for
-/// each place is tested, not proved; words past the last place are left out.
-pub fn add_sentence(text: &mut String, template: &str, words: &[Word<'_>]) -> Result<(), NoMemory> {
-    let mut rest = template;
-    for word in words {
-        if let Some((before, after)) = rest.split_once("{}") {
-            text.push_str(before)?;
-            add_word(text, word)?;
-            rest = after;
+// Adds what stands at a place: the word of its number, or, if it has none, the next one.
+fn add_at(text: &mut String, words: &[Word<'_>], place: &str, next: usize) -> Result<(), NoMemory> {
+    let (number, part) = match place.split_once(".") {
+        Some((number, part)) => (number, part),
+        None => (place, ""),
+    };
+    match words.get(number.parse::<usize>().unwrap_or(next)) {
+        Some(word) => add_word(text, word, part),
+        None => Ok(()),
+    }
+}
+
+/// Adds sentences, one after the other, as templates with words at their places. A place is `{}` for the next word,
+/// `{2}` for the word of this number, from 0, or `{2.asked}` for a part of a call: its number `no`, `asked`, `heard`,
+/// its lines `called` and `replied`, its `condition`, `version` and `k` in its reply, or, in brackets, that its reply
+/// is where a version is `shown`. That there is a word for each place is tested, not proved.
+pub fn add_sentences(
+    text: &mut String,
+    templates: &[&str],
+    words: &[Word<'_>],
+) -> Result<(), NoMemory> {
+    let mut next = 0usize;
+    for template in templates {
+        for piece in template.split('{') {
+            match piece.split_once("}") {
+                Some((place, after)) => {
+                    add_at(text, words, place, next)?;
+                    text.push_str(after)?;
+                    if place.is_empty() {
+                        next = next.saturating_add(1);
+                    }
+                }
+                None => text.push_str(piece)?,
+            }
         }
     }
-    text.push_str(rest)
-}
-
-/// Returns the template with the words at its places.
-pub fn sentence_of(alloc: Global, template: &str, words: &[Word<'_>]) -> Result<String, NoMemory> {
-    let mut text = String::new(alloc);
-    add_sentence(&mut text, template, words)?;
-    Ok(text)
+    Ok(())
 }
 
 /// Returns, in words, which writes have no reply that says whether they were performed.
@@ -203,9 +269,4 @@ pub fn unreported_kind(conflicts: Conflicts) -> Word<'static> {
         Conflicts::Plain => "without a reply",
         Conflicts::Maybe => "without a reply or answered with a conflict",
     })
-}
-
-/// Returns what stands before the next one of a list with this text: a comma unless it is the first.
-pub fn separator(list: &str) -> Word<'static> {
-    Word::Text(if list.is_empty() { "" } else { ", " })
 }

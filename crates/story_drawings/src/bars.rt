@@ -1,8 +1,8 @@
-use crate::call_table::{asked_words, client_words, have_clients};
+use crate::call_table::{client_of, have_clients};
 use crate::drawn::{DrawingKind, Drawn};
 use crate::lanes::Lanes;
 use crate::scale::{LEFT, Scale};
-use story_blocks::Word::{Heard, Number, Phrase, Shown, Text};
+use story_blocks::Word::{Id, Number, Shown};
 use story_blocks::{Bar, Draft, LaneName, Mark, TOP, after};
 use story_reasons::Call;
 use version_pair::NoMemory;
@@ -44,86 +44,64 @@ pub fn width_of(words: &str) -> u64 {
 }
 
 // Returns what was asked and answered, in short.
-fn bar_words(
-    draft: &Draft<'_>,
-    drawn: &Drawn<'_, '_>,
-    call: &Call<'_>,
-) -> Result<String, NoMemory> {
-    let no = Number(call.record.no);
-    if !drawn.has_words() {
-        return draft.sentence("{}", &[no]);
-    }
-    let heard = Heard(call.record.heard);
-    let asked = asked_words(draft, call, drawn.several)?;
-    draft.sentence("{} {}: {}", &[no, Phrase(asked.as_str()), heard])
-}
-
-// Returns the number of a call, and who made it.
-fn tip_head(draft: &Draft<'_>, call: &Call<'_>) -> Result<String, NoMemory> {
-    let client = client_words(draft, call)?;
-    let by = Text(if client.is_empty() { "" } else { " by " });
-    let words = [Number(call.record.no), by, Phrase(client.as_str())];
-    draft.sentence("call {}{}{}: ", &words)
-}
-
-// Returns the lines of a call.
-fn tip_lines(draft: &Draft<'_>, call: &Call<'_>) -> Result<String, NoMemory> {
-    let words = [draft.called(&call.record), draft.replied(&call.record)];
-    let template = match call.reply_place() {
-        Some(_) => " (line {}, reply on line {})",
-        None => " (line {})",
+fn bar_words(draft: &mut Draft<'_>, drawn: &Drawn<'_, '_>, call: &Call<'_>) -> String {
+    let template = match (drawn.has_words(), drawn.several) {
+        (false, _) => "{0.no}",
+        (true, false) => "{0.no} {0.asked}: {0.heard}",
+        (true, true) => "{0.no} {1} {0.asked}: {0.heard}",
     };
-    draft.sentence(template, &words)
+    draft.text(template, &[draft.call(&call.record), Id(call.id)])
 }
 
-// Returns what was asked and answered.
-fn asked_and_answered(
-    draft: &Draft<'_>,
-    drawn: &Drawn<'_, '_>,
-    call: &Call<'_>,
-) -> Result<String, NoMemory> {
-    let heard = Heard(call.record.heard);
-    let asked = asked_words(draft, call, drawn.several)?;
-    draft.sentence("{} -> {}", &[Phrase(asked.as_str()), heard])
+// Says the number of a call, and who made it.
+fn say_head(draft: &mut Draft<'_>, call: &Call<'_>) {
+    let client = client_of(draft, call);
+    let template = if client.is_empty() {
+        "call {}: "
+    } else {
+        "call {} by {}: "
+    };
+    draft.say(&[template], &[Number(call.record.no), Shown(client)]);
 }
 
-// Returns what is said of a call if it is pointed at.
-fn tip_words(
-    draft: &Draft<'_>,
-    drawn: &Drawn<'_, '_>,
-    call: &Call<'_>,
-) -> Result<String, NoMemory> {
-    let mut tip = tip_head(draft, call)?;
-    let asked = asked_and_answered(draft, drawn, call)?;
-    let lines = tip_lines(draft, call)?;
-    tip.push_str(asked.as_str())?;
-    tip.push_str(lines.as_str())?;
-    Ok(tip)
+// Returns what is said of a call if it is pointed at: its number and who made it, what was asked and answered, and its
+// lines.
+fn tip_words(draft: &mut Draft<'_>, drawn: &Drawn<'_, '_>, call: &Call<'_>) -> String {
+    let asked = if drawn.several {
+        "{1} {0.asked} -> {0.heard}"
+    } else {
+        "{0.asked} -> {0.heard}"
+    };
+    let lines = match call.record.heard {
+        Some(_) => " (line {0.called}, reply on line {0.replied})",
+        None => " (line {0.called})",
+    };
+    say_head(draft, call);
+    draft.say(&[asked, lines], &[draft.call(&call.record), Id(call.id)]);
+    draft.said()
 }
 
 // Returns where the call takes effect, if a timeline shows it.
 fn effect_of(drawn: &Drawn<'_, '_>, call: &Call<'_>, scale: &Scale) -> Option<u64> {
-    if drawn.kind != DrawingKind::Timeline {
+    let (DrawingKind::Timeline, Some(order)) = (drawn.kind, drawn.order) else {
         return None;
+    };
+    for step in order.steps.iter() {
+        if step.record.no == call.record.no {
+            return Some(scale.x(step.point));
+        }
     }
-    let mut steps = drawn.order?.steps.iter();
-    let step = steps.find(|step| step.record.no == call.record.no)?;
-    Some(scale.x(step.point))
-}
-
-// Returns the name of who made the call; an empty text if its line names nobody.
-fn name_of<'l>(draft: &Draft<'l>, call: &Call<'_>) -> &'l str {
-    draft.lines.client(&call.record).unwrap_or("")
+    None
 }
 
 // Returns who made the calls, each name once, if lanes are kept for each of them; else nobody.
 fn clients_of<'l>(draft: &Draft<'l>, drawn: &Drawn<'_, '_>) -> Result<Vec<&'l str>, NoMemory> {
     let mut names = Vec::new(draft.alloc);
-    if drawn.kind != DrawingKind::Timeline || !have_clients(draft, drawn.calls) {
+    if matches!(drawn.kind, DrawingKind::Evidence) || !have_clients(draft, drawn.calls) {
         return Ok(names);
     }
     for call in drawn.calls {
-        let name = name_of(draft, call);
+        let name = client_of(draft, call);
         if !names.iter().any(|known| *known == name) {
             names.push(name)?;
         }
@@ -138,26 +116,28 @@ impl Bars {
     // Adds the bar of a call, in the first lane that has room for it and its words.
     fn add(
         &mut self,
-        draft: &Draft<'_>,
+        draft: &mut Draft<'_>,
         drawn: &Drawn<'_, '_>,
         scale: &Scale,
         call: &Call<'_>,
     ) -> Result<(), NoMemory> {
         let x = scale.x(call.record.call_at);
-        let end = call
-            .reply_place()
-            .map_or(scale.right, |place| scale.x(place));
-        let words = bar_words(draft, drawn, call)?;
+        let end = match call.record.heard {
+            Some(heard) => scale.x(heard.0),
+            None => scale.right,
+        };
+        let words = bar_words(draft, drawn, call);
         let words_width = width_of(words.as_str());
         // Words that are too wide for the drawing begin at its left.
         let words_x = x.min(scale.width().saturating_sub(words_width)).max(LEFT);
         let gap = if drawn.has_words() { GAP } else { SMALL_GAP };
         let taken = after(end.max(after(words_x, words_width)), gap);
         self.list.push(Bar {
-            mark: drawn
-                .named
-                .map_or(Mark::Plain, |named| named.mark(call.record.no)),
-            is_open: call.reply_place().is_none(),
+            mark: match drawn.named {
+                Some(named) => named.mark(call.record.no),
+                None => Mark::Plain,
+            },
+            is_open: call.record.heard.is_none(),
             x,
             y: self.lanes.take(words_x.min(x), taken)?,
             // A reply is to the right of its call, so this is never below zero.
@@ -165,50 +145,20 @@ impl Bars {
             effect: effect_of(drawn, call, scale),
             words_x,
             words,
-            tip: tip_words(draft, drawn, call)?,
+            tip: tip_words(draft, drawn, call),
         })?;
         Ok(())
     }
 
     // Adds the name of a client, whose lanes are to be below it.
-    fn add_name(&mut self, draft: &Draft<'_>, name: &str) -> Result<(), NoMemory> {
+    fn add_name(&mut self, draft: &mut Draft<'_>, name: &str) -> Result<(), NoMemory> {
         self.lanes.part(NAME_HEIGHT);
         let shown = if name.is_empty() { "no client" } else { name };
         self.names.push(LaneName {
             // Lanes end below the room for a name, so this is never below zero.
             y: self.lanes.end.saturating_sub(NAME_ABOVE),
-            name: draft.sentence("{}", &[Shown(shown)])?,
+            name: draft.text("{}", &[Shown(shown)]),
         })?;
-        Ok(())
-    }
-
-    // Adds the bars of all calls.
-    fn add_all(
-        &mut self,
-        draft: &Draft<'_>,
-        drawn: &Drawn<'_, '_>,
-        scale: &Scale,
-    ) -> Result<(), NoMemory> {
-        for call in drawn.calls {
-            self.add(draft, drawn, scale, call)?;
-        }
-        Ok(())
-    }
-
-    // Adds the bars of the calls that a client made, below its name.
-    fn add_client(
-        &mut self,
-        draft: &Draft<'_>,
-        drawn: &Drawn<'_, '_>,
-        scale: &Scale,
-        client: &str,
-    ) -> Result<(), NoMemory> {
-        self.add_name(draft, client)?;
-        for call in drawn.calls {
-            if name_of(draft, call) == client {
-                self.add(draft, drawn, scale, call)?;
-            }
-        }
         Ok(())
     }
 
@@ -219,7 +169,11 @@ impl Bars {
 }
 
 /// Returns the bars of the calls. Those of a timeline are in lanes by client, if lines have one.
-pub fn bars_of(draft: &Draft<'_>, drawn: &Drawn<'_, '_>, scale: &Scale) -> Result<Bars, NoMemory> {
+pub fn bars_of(
+    draft: &mut Draft<'_>,
+    drawn: &Drawn<'_, '_>,
+    scale: &Scale,
+) -> Result<Bars, NoMemory> {
     let mut bars = Bars {
         list: Vec::new(draft.alloc),
         names: Vec::new(draft.alloc),
@@ -227,10 +181,17 @@ pub fn bars_of(draft: &Draft<'_>, drawn: &Drawn<'_, '_>, scale: &Scale) -> Resul
     };
     let clients = clients_of(draft, drawn)?;
     if clients.is_empty() {
-        bars.add_all(draft, drawn, scale)?;
+        for call in drawn.calls {
+            bars.add(draft, drawn, scale, call)?;
+        }
     }
     for client in clients.iter() {
-        bars.add_client(draft, drawn, scale, client)?;
+        bars.add_name(draft, client)?;
+        for call in drawn.calls {
+            if client_of(draft, call) == *client {
+                bars.add(draft, drawn, scale, call)?;
+            }
+        }
     }
     Ok(bars)
 }

@@ -13,17 +13,18 @@ const BELOW_LANES: u64 = 48;
 const MOST_NOTES: usize = 40;
 
 // Returns the marks of the notes between the first and the last event that is drawn.
-fn notes_of(draft: &Draft<'_>, scale: &Scale) -> Result<Vec<EventMark>, NoMemory> {
+fn notes_of(draft: &mut Draft<'_>, scale: &Scale) -> Result<Vec<EventMark>, NoMemory> {
     let mut marks = Vec::new(draft.alloc);
     let (Some(first), Some(last)) = (scale.first(), scale.last()) else {
         return Ok(marks);
     };
-    let notes = draft.lines.notes(first, last.saturating_add(1));
+    let lines = draft.lines;
+    let notes = lines.notes(first, last.saturating_add(1));
     for note in notes.iter().take(MOST_NOTES) {
         marks.push(EventMark {
             x: scale.x(note.place),
-            line: draft.lines.number(note.place),
-            note: draft.sentence("{}", &[Shown(note.text.as_str())])?,
+            line: lines.number(note.place),
+            note: draft.text("{}", &[Shown(note.text.as_str())]),
         })?;
     }
     Ok(marks)
@@ -43,7 +44,7 @@ fn here_of(draft: &Draft<'_>, scale: &Scale, event: Option<usize>) -> Option<Eve
 }
 
 /// Returns the drawing.
-pub fn drawing_of(draft: &Draft<'_>, drawn: &Drawn<'_, '_>) -> Result<Drawing, NoMemory> {
+pub fn drawing_of(draft: &mut Draft<'_>, drawn: &Drawn<'_, '_>) -> Result<Drawing, NoMemory> {
     let scale = Scale::of(draft.alloc, drawn.calls, drawn.least_step())?;
     let bars = bars_of(draft, drawn, &scale)?;
     let lanes_end = bars.end();

@@ -2,7 +2,7 @@ use crate::named::Named;
 use story_reasons::{Call, OrderBefore};
 
 /// What a drawing is for.
-#[derive(Clone, Copy, PartialEq, Eq)]
+#[derive(Clone, Copy)]
 pub enum DrawingKind {
     /// It shows the calls that an explanation is about.
     Evidence,
@@ -39,7 +39,7 @@ impl Drawn<'_, '_> {
 
     /// Returns whether the bars have more words than the calls' numbers.
     pub fn has_words(&self) -> bool {
-        self.kind == DrawingKind::Evidence || self.calls.len() <= MOST_WITH_WORDS
+        matches!(self.kind, DrawingKind::Evidence) || self.calls.len() <= MOST_WITH_WORDS
     }
 
     /// Returns what the boxes of versions are.

@@ -1,6 +1,6 @@
 use crate::named::Named;
 use std::alloc::Global;
-use story_reasons::{Call, Subject};
+use story_reasons::{Call, Subject, in_order};
 use version_pair::NoMemory;
 
 /// The greatest number of calls that are drawn.
@@ -41,23 +41,18 @@ impl<'h> Kept<'h> {
             kept.keep(named, subject, true)?;
             kept.keep(named, subject, false)?;
         }
-        kept.calls.sort_unstable_by_key(|call| call.record.call_at);
-        kept.unanswered
-            .sort_unstable_by_key(|call| call.record.call_at);
-        Ok(kept)
-    }
-
-    // Counts a call, and keeps it if it is a write without a reply and there is room.
-    fn count_call(&mut self, call: Call<'h>) -> Result<(), NoMemory> {
-        // A history has too few calls for these to reach the greatest number.
-        self.calls_count = self.calls_count.saturating_add(1);
-        if call.may_have_happened() {
-            self.unanswered_count = self.unanswered_count.saturating_add(1);
-            if self.unanswered.len() < MOST_DESCRIBED {
-                self.unanswered.push(call)?;
-            }
-        }
-        Ok(())
+        let Kept {
+            calls_count,
+            calls,
+            unanswered_count,
+            unanswered,
+        } = kept;
+        Ok(Kept {
+            calls_count,
+            calls: in_order(calls),
+            unanswered_count,
+            unanswered: in_order(unanswered),
+        })
     }
 
     // Keeps the calls of a document that matter, or the others: the last ones up to the last event that matters.
@@ -81,11 +76,20 @@ impl<'h> Kept<'h> {
         Ok(())
     }
 
-    // Counts the calls of a document, up to the last event that matters.
+    // Counts the calls of a document, up to the last event that matters, and keeps those that are writes without a
+    // reply if there is room.
     fn count(&mut self, named: &Named, subject: &Subject<'h>) -> Result<(), NoMemory> {
         for record in subject.all().iter().rev() {
             if record.call_at <= named.last {
-                self.count_call(subject.call(record))?;
+                let call = subject.call(record);
+                // A history has too few calls for these to reach the greatest number.
+                self.calls_count = self.calls_count.saturating_add(1);
+                if call.may_have_happened() {
+                    self.unanswered_count = self.unanswered_count.saturating_add(1);
+                    if self.unanswered.len() < MOST_DESCRIBED {
+                        self.unanswered.push(call)?;
+                    }
+                }
             }
         }
         Ok(())

@@ -1,7 +1,11 @@
+ghost use Rattle.std.specs.Prelude.{◌≤◌, IfOk, vec_len};
+
 use events::{History, Rec};
 use std::alloc::Global;
 use story_blocks::Mark;
-use story_reasons::{Call, EvidenceCalls, Reason, Subject, Unexplained, call_of, end_of};
+use story_reasons::{
+    Call, EvidenceCalls, Reason, Subject, Unexplained, call_of, end_of, in_order, version_shown,
+};
 use version_pair::{NoMemory, Pair};
 
 // How much a call matters: it is one of the calls that are named, it made a version that they name, or it was
@@ -55,7 +59,7 @@ impl Named {
     // Notes the versions that the call names, and its last event.
     fn note(&mut self, record: &Rec) -> Result<(), NoMemory> {
         self.last = self.last.max(end_of(record));
-        if let Some(pair) = record.heard.and_then(|heard| heard.1.pair()) {
+        if let Some(pair) = version_shown(record) {
             self.versions.push(pair)?;
         }
         if let Some(pair) = record.op.condition() {
@@ -75,10 +79,12 @@ impl Named {
         if let Some(first) = call_of(history, calls.first) {
             self.add(&first.record)?;
         }
-        match calls.second.and_then(|no| call_of(history, no)) {
-            Some(second) => self.add(&second.record),
-            None => Ok(()),
+        if let Some(no) = calls.second {
+            if let Some(second) = call_of(history, no) {
+                self.add(&second.record)?;
+            }
         }
+        Ok(())
     }
 
     // Adds the calls of a reason; none if the evidence already explains the call that has no position.
@@ -96,11 +102,16 @@ impl Named {
         }
     }
 
+    // Whether the call is one of them.
+    fn is_named(&self, no: u64) -> bool {
+        no == self.broken || self.reasons.contains(&no)
+    }
+
     /// Returns how the call stands out.
     pub fn mark(&self, no: u64) -> Mark {
         if no == self.broken {
             Mark::Broken
-        } else if self.reasons.iter().any(|named| *named == no) {
+        } else if self.reasons.contains(&no) {
             Mark::Evidence
         } else {
             Mark::Plain
@@ -109,11 +120,11 @@ impl Named {
 
     /// Returns whether the call is one of them, or made a version that they name.
     pub fn matters(&self, call: &Call<'_>) -> bool {
-        if self.mark(call.record.no) != Mark::Plain {
+        if self.is_named(call.record.no) {
             return true;
         }
         match call.record.pair_taken() {
-            Some(taken) => self.versions.iter().any(|pair| *pair == taken),
+            Some(taken) => self.versions.contains(&taken),
             None => false,
         }
     }
@@ -125,7 +136,7 @@ impl Named {
 
     // Returns how much the call matters. `beside` are the calls that are named.
     fn rank(&self, call: &Call<'_>, beside: &[Call<'_>]) -> Rank {
-        if self.mark(call.record.no) != Mark::Plain {
+        if self.is_named(call.record.no) {
             Rank::Named
         } else if self.matters(call) {
             Rank::Writer
@@ -142,7 +153,7 @@ impl Named {
     fn marked<'h>(&self, alloc: Global, calls: &[Call<'h>]) -> Result<Vec<Call<'h>>, NoMemory> {
         let mut marked = Vec::new(alloc);
         for call in calls {
-            if self.mark(call.record.no) != Mark::Plain {
+            if self.is_named(call.record.no) {
                 marked.push(*call)?;
             }
         }
@@ -156,7 +167,10 @@ impl Named {
         alloc: Global,
         calls: &[Call<'h>],
         most: usize,
-    ) -> Result<Vec<Call<'h>>, NoMemory> {
+    ) -> Result<Vec<Call<'h>>, NoMemory>
+        // There are no more.
+        ensures { IfOk result (λ calls. vec_len calls ≤ most) }
+    {
         let named = self.marked(alloc, calls)?;
         let mut first = Vec::new(alloc);
         for rank in [Rank::Named, Rank::Writer, Rank::Beside] {
@@ -166,8 +180,7 @@ impl Named {
                 }
             }
         }
-        first.sort_unstable_by_key(|call| call.record.call_at);
-        Ok(first)
+        Ok(in_order(first))
     }
 
     /// Returns at most that many of the calls, in their order: those that matter most, and the last ones of
@@ -177,7 +190,10 @@ impl Named {
         alloc: Global,
         calls: &[Call<'h>],
         most: usize,
-    ) -> Result<Vec<Call<'h>>, NoMemory> {
+    ) -> Result<Vec<Call<'h>>, NoMemory>
+        // There are no more.
+        ensures { IfOk result (λ calls. vec_len calls ≤ most) }
+    {
         let mut chosen = Vec::new(alloc);
         for call in calls {
             if chosen.len() < most && self.matters(call) {
@@ -192,9 +208,18 @@ impl Named {
                 chosen.push(*call)?;
             }
         }
-        chosen.sort_unstable_by_key(|call| call.record.call_at);
-        Ok(chosen)
+        Ok(in_order(chosen))
     }
+}
+
+// Whether the call of this number is among the calls.
+fn has_call(calls: &[Call<'_>], no: u64) -> bool {
+    for call in calls {
+        if call.record.no == no {
+            return true;
+        }
+    }
+    false
 }
 
 /// Returns at most that many of the calls, in their order: the last ones of those that are not among the
@@ -204,16 +229,18 @@ pub fn rest_of<'h>(
     calls: &[Call<'h>],
     first: &[Call<'h>],
     most: usize,
-) -> Result<Vec<Call<'h>>, NoMemory> {
+) -> Result<Vec<Call<'h>>, NoMemory>
+    // There are no more.
+    ensures { IfOk result (λ calls. vec_len calls ≤ most) }
+{
     let mut rest = Vec::new(alloc);
     for call in calls.iter().rev() {
         if rest.len() >= most {
             break;
         }
-        if !first.iter().any(|other| other.record.no == call.record.no) {
+        if !has_call(first, call.record.no) {
             rest.push(*call)?;
         }
     }
-    rest.sort_unstable_by_key(|call| call.record.call_at);
-    Ok(rest)
+    Ok(in_order(rest))
 }

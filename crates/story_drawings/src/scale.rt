@@ -29,8 +29,8 @@ impl Scale {
         let mut places = Vec::new(alloc);
         for call in calls {
             places.push(call.record.call_at)?;
-            if let Some(place) = call.reply_place() {
-                places.push(place)?;
+            if let Some(heard) = call.record.heard {
+                places.push(heard.0)?;
             }
         }
         places.sort_unstable();

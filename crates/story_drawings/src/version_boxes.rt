@@ -20,8 +20,17 @@ struct Boxes {
 }
 
 impl Boxes {
-    // Adds a box, in a new row if there is no room.
-    fn add(&mut self, version: String, maker: String) -> Result<(), NoMemory> {
+    // Adds the box of a state of the document, in a new row if there is no room. What made it is a template with the
+    // number of the call.
+    fn add(
+        &mut self,
+        draft: &mut Draft<'_>,
+        state: DocState,
+        maker: &str,
+        no: u64,
+    ) -> Result<(), NoMemory> {
+        let version = draft.text("{}", &[State(state)]);
+        let maker = draft.text(maker, &[Number(no)]);
         let words_width = width_of(version.as_str()).max(width_of(maker.as_str()));
         let width = after(words_width, 16);
         if self.x > LEFT && after(self.x, width) > self.right {
@@ -39,42 +48,26 @@ impl Boxes {
         Ok(())
     }
 
-    // Adds the box of a state of the document.
-    fn add_state(
-        &mut self,
-        draft: &Draft<'_>,
-        state: DocState,
-        maker: String,
-    ) -> Result<(), NoMemory> {
-        let version = draft.sentence("{}", &[State(state)])?;
-        self.add(version, maker)
-    }
-
-    // Adds the box of the state before the versions that are shown.
-    fn add_start(&mut self, draft: &Draft<'_>, start: DocState) -> Result<(), NoMemory> {
-        let when = if start == DocState::Never {
-            "at first"
-        } else {
-            "before"
-        };
-        let when = draft.sentence(when, &[])?;
-        self.add_state(draft, start, when)
-    }
-
     // Adds the boxes of the last versions of the order, at most that many, after the state before them.
     fn add_order(
         &mut self,
-        draft: &Draft<'_>,
+        draft: &mut Draft<'_>,
         order: &OrderBefore,
         most: usize,
     ) -> Result<(), NoMemory> {
         let changes = changes_of(draft.alloc, order)?;
         let skipped = changes.len().saturating_sub(most);
-        let before = changes[..skipped].last();
-        self.add_start(draft, before.map_or(order.start, |step| step.state))?;
+        let start = match changes[..skipped].last() {
+            Some(step) => step.state,
+            None => order.start,
+        };
+        let when = match start {
+            DocState::Never => "at first",
+            _ => "before",
+        };
+        self.add(draft, start, when, 0)?;
         for step in changes[skipped..].iter() {
-            let maker = draft.sentence("by call {}", &[Number(step.record.no)])?;
-            self.add_state(draft, step.state, maker)?;
+            self.add(draft, step.state, "by call {}", step.record.no)?;
         }
         Ok(())
     }
@@ -93,7 +86,7 @@ fn changes_of(alloc: Global, order: &OrderBefore) -> Result<Vec<OrderStep>, NoMe
 
 /// Returns the boxes of the last versions of the order, below the lanes, after the box of the state before them.
 pub fn boxes_of(
-    draft: &Draft<'_>,
+    draft: &mut Draft<'_>,
     drawn: &Drawn<'_, '_>,
     top: u64,
     right: u64,

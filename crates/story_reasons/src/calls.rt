@@ -1,3 +1,5 @@
+ghost use Rattle.std.specs.Prelude.{◌≡◌, vec_len};
+
 use doc_register::{Op, Reply};
 use events::{Event, History, Rec};
 use evidence::Refuted;
@@ -25,14 +27,46 @@ pub fn call_of(history: &History, no: u64) -> Option<Call<'_>> {
     }
 }
 
+/// Returns the one of these calls that has this number, if it is there.
+pub fn record_of(records: &[Rec], no: u64) -> Option<Rec> {
+    for record in records {
+        if record.no == no {
+            return Some(*record);
+        }
+    }
+    None
+}
+
+/// Returns the version that the reply to the call shows, if it shows one.
+pub fn version_shown(record: &Rec) -> Option<Pair> {
+    match record.heard {
+        Some(heard) => heard.1.pair(),
+        None => None,
+    }
+}
+
+/// Returns whether the reply to the call stands before the event.
+pub fn is_answered_before(record: &Rec, event: usize) -> bool {
+    match record.heard {
+        Some(heard) => heard.0 < event,
+        None => false,
+    }
+}
+
 /// Returns the position of the reply to the call; that of the call if there is no reply.
 pub fn end_of(record: &Rec) -> usize {
-    record.heard.map_or(record.call_at, |heard| heard.0)
+    match record.heard {
+        Some(heard) => heard.0,
+        None => record.call_at,
+    }
 }
 
 // Returns how long the call was open: up to the position of its reply, if there is one.
 fn open_until(record: &Rec) -> usize {
-    record.heard.map_or(usize::MAX, |heard| heard.0)
+    match record.heard {
+        Some(heard) => heard.0,
+        None => usize::MAX,
+    }
 }
 
 /// Returns whether the two calls were open at the same time.
@@ -41,22 +75,9 @@ pub fn overlap(one: &Rec, other: &Rec) -> bool {
 }
 
 impl Call<'_> {
-    /// Returns the position of the reply, if there is one.
-    pub fn reply_place(&self) -> Option<usize> {
-        self.record.heard.map(|heard| heard.0)
-    }
-
-    /// Returns the version that it found, and the number.
-    pub fn found(&self) -> Option<(Pair, u64)> {
-        match self.record.heard {
-            Some((_, Reply::Found { pair, k })) => Some((pair, k)),
-            _ => None,
-        }
-    }
-
     /// Returns whether it is a write without a reply, so that its outcome is unknown (indeterminate).
     pub fn may_have_happened(&self) -> bool {
-        self.record.heard.is_none() && self.record.op != Op::Get
+        self.record.heard.is_none() && !matches!(self.record.op, Op::Get)
     }
 
     /// Returns whether it was answered with a conflict.
@@ -68,6 +89,16 @@ impl Call<'_> {
     pub fn is_open_with(&self, other: &Call<'_>) -> bool {
         overlap(&self.record, &other.record)
     }
+}
+
+/// Returns the calls in the order in which they were made.
+pub fn in_order<'h>(calls: Vec<Call<'h>>) -> Vec<Call<'h>>
+    // There are as many.
+    ensures { vec_len result ≡ vec_len calls.entry }
+{
+    let mut calls = calls;
+    calls.sort_unstable_by_key(|call| call.record.call_at);
+    calls
 }
 
 /// The numbers of the calls that evidence names.

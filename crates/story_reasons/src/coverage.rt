@@ -1,4 +1,4 @@
-use crate::calls::end_of;
+use crate::calls::{end_of, version_shown};
 use doc_register::{Op, Reply};
 use events::Rec;
 use places::DocWitness;
@@ -43,12 +43,12 @@ fn kind_of(record: &Rec) -> CallKind {
 pub fn count_of(witnesses: &[DocWitness], kind: CallKind) -> usize {
     let mut count = 0usize;
     for witness in witnesses {
-        let more = witness
-            .records()
-            .iter()
-            .filter(|record| kind_of(record) == kind);
-        // A history has too few calls for the sum to reach the greatest number.
-        count = count.saturating_add(more.count());
+        for record in witness.records() {
+            if kind_of(record) == kind {
+                // A history has too few calls for the sum to reach the greatest number.
+                count = count.saturating_add(1);
+            }
+        }
     }
     count
 }
@@ -99,7 +99,7 @@ pub fn terms_of(witnesses: &[DocWitness]) -> Option<Terms> {
     let mut terms = None;
     for witness in witnesses {
         for record in witness.records() {
-            if let Some(pair) = record.heard.and_then(|heard| heard.1.pair()) {
+            if let Some(pair) = version_shown(record) {
                 terms = Some(with_term(terms, pair.term()));
             }
         }

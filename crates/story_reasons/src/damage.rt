@@ -1,3 +1,6 @@
+ghost use Rattle.std.specs.Prelude.{◌<◌, length};
+ghost use Rattle.events.specs.Events.{documents_of};
+
 use crate::anomaly::Anomaly;
 use crate::calls::end_of;
 use crate::diagnosis::anomaly_of;
@@ -8,7 +11,7 @@ use crate::subjects::Subject;
 use events::Rec;
 use evidence::is_document_ruled_out;
 use std::alloc::Global;
-use version_pair::NoMemory;
+use version_pair::{DocId, NoMemory};
 
 /// How many documents show an anomaly.
 #[derive(Clone, Copy)]
@@ -75,16 +78,68 @@ impl Damage {
         }
         Ok(())
     }
+
+    // Adds the document of this number of the whole history if it is ruled out, and returns whether it is.
+    fn add_document(
+        &mut self,
+        alloc: Global,
+        unexplained: &Unexplained<'_>,
+        doc: usize,
+    ) -> Result<bool, NoMemory>
+        requires { doc < length (documents_of unexplained.now.whole.now) }
+    {
+        let whole = unexplained.whole;
+        let conflicts = unexplained.conflicts;
+        if !is_document_ruled_out(alloc, whole, doc, conflicts)? {
+            return Ok(false);
+        }
+        let records = whole.records(doc)?;
+        match found_reason(alloc, unexplained.evidence, &records, conflicts)? {
+            Some(reason) => {
+                self.add(alloc, &reason, &records)?;
+                Ok(true)
+            }
+            None => Ok(false),
+        }
+    }
+
+    // Adds the document of this number, which the explanation is about, if it is ruled out.
+    fn add_subject(
+        &mut self,
+        alloc: Global,
+        unexplained: &Unexplained<'_>,
+        doc: usize,
+        subject: &Subject<'_>,
+    ) -> Result<(), NoMemory>
+        requires { doc < length (documents_of unexplained.now.whole.now) }
+    {
+        match subject.whole_reason() {
+            Some(reason) => self.add(alloc, reason, &subject.records),
+            None => {
+                self.add_document(alloc, unexplained, doc)?;
+                Ok(())
+            }
+        }
+    }
 }
 
-/// Returns how much of the whole history is broken. It takes one walk over each document.
+// Returns the one of the subjects that is this document.
+fn subject_of<'s, 'h>(subjects: &'s [Subject<'h>], id: &DocId) -> Option<&'s Subject<'h>> {
+    for subject in subjects {
+        if subject.id.as_str() == id.as_str() {
+            return Some(subject);
+        }
+    }
+    None
+}
+
+/// Returns how much of the whole history is broken. It takes at most one walk over each document.
 pub fn damage_of(
     alloc: Global,
     unexplained: &Unexplained<'_>,
     subjects: &[Subject<'_>],
 ) -> Result<Damage, NoMemory> {
     let whole = unexplained.whole;
-    let conflicts = unexplained.conflicts;
     let mut damage = Damage {
         documents: 0,
         others: 0,
@@ -92,15 +147,12 @@ pub fn damage_of(
         lost: None,
     };
     for doc in 0..whole.docs() {
-        if !is_document_ruled_out(alloc, whole, doc, conflicts)? {
-            continue;
-        }
-        let records = whole.records(doc)?;
-        let id = whole.doc(doc);
-        if let Some(reason) = found_reason(alloc, unexplained.evidence, &records, conflicts)? {
-            damage.add(alloc, &reason, &records)?;
-            if !subjects.iter().any(|it| it.id.as_str() == id.as_str()) {
-                damage.others = damage.others.saturating_add(1);
+        match subject_of(subjects, whole.doc(doc)) {
+            Some(subject) => damage.add_subject(alloc, unexplained, doc, subject)?,
+            None => {
+                let is_added = damage.add_document(alloc, unexplained, doc)?;
+                // A history has too few documents for the sum to reach the greatest number.
+                damage.others = damage.others.saturating_add(usize::from(is_added));
             }
         }
     }

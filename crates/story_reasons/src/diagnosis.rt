@@ -1,4 +1,5 @@
 use crate::anomaly::Anomaly;
+use crate::calls::{is_answered_before, version_shown};
 use crate::reason::Reason;
 use crate::subject::Unexplained;
 use crate::subjects::Subject;
@@ -18,14 +19,20 @@ pub struct Diagnosis {
 // Whether the write of the version that the document had reached was acknowledged before the call that has no
 // position was made.
 fn is_acknowledged(reason: &Reason, records: &[Rec]) -> bool {
-    let link = reason.links.last().map(|link| link.record);
-    let shower = link.or(reason.shower);
-    let reached = shower.and_then(|it| it.heard.and_then(|heard| heard.1.pair()));
-    let called = reason.stop.call_at;
-    reached.is_some()
-        && records.iter().any(|write| {
-            write.pair_taken() == reached && write.heard.is_some_and(|heard| heard.0 < called)
-        })
+    let shower = match (reason.links.last(), &reason.shower) {
+        (Some(link), _) => &link.record,
+        (None, Some(shower)) => shower,
+        (None, None) => return false,
+    };
+    let Some(reached) = version_shown(shower) else {
+        return false;
+    };
+    for write in records {
+        if write.pair_taken() == Some(reached) && is_answered_before(write, reason.stop.call_at) {
+            return true;
+        }
+    }
+    false
 }
 
 // Returns the anomaly of a reply that shows an older state than the document had reached.
@@ -67,8 +74,7 @@ fn anomaly_of_absent(reason: &Reason, records: &[Rec]) -> Anomaly {
 
 // Returns the anomaly of a call by which the document must have had a version that nobody wrote.
 fn anomaly_of_unwritten(stop: &Rec, version: Pair) -> Anomaly {
-    let shown = stop.heard.and_then(|heard| heard.1.pair());
-    if stop.op == Op::Get && shown == Some(version) {
+    if stop.op == Op::Get && version_shown(stop) == Some(version) {
         Anomaly::UnwrittenValue
     } else {
         Anomaly::UnwrittenVersion
@@ -126,17 +132,16 @@ fn reasoned(evidence: Option<Refuted>, subjects: &[Subject<'_>]) -> Option<Diagn
 /// Returns the anomaly that an explanation names; `None` if it is undecided whether there is an order. It is
 /// that of the evidence, or else that of the reason.
 pub fn diagnosis_of(unexplained: &Unexplained<'_>, subjects: &[Subject<'_>]) -> Option<Diagnosis> {
-    if unexplained.certainty == Certainty::Undecided {
+    if matches!(unexplained.certainty, Certainty::Undecided) {
         return None;
     }
-    if let Some(found) = unexplained.evidence.and_then(evident) {
-        return Some(found);
-    }
-    if let Some(found) = reasoned(unexplained.evidence, subjects) {
-        return Some(found);
-    }
-    Some(Diagnosis {
+    let unnamed = Diagnosis {
         anomaly: Anomaly::Unnamed,
         call: unexplained.call,
-    })
+    };
+    let reasoned = reasoned(unexplained.evidence, subjects).unwrap_or(unnamed);
+    match unexplained.evidence {
+        Some(evidence) => evident(evidence).or(Some(reasoned)),
+        None => Some(reasoned),
+    }
 }

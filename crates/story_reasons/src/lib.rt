@@ -23,7 +23,10 @@ mod subjects;
 mod window;
 
 pub use anomaly::Anomaly;
-pub use calls::{Call, EvidenceCalls, call_of, end_of, overlap};
+pub use calls::{
+    Call, EvidenceCalls, call_of, end_of, in_order, is_answered_before, overlap, record_of,
+    version_shown,
+};
 pub use coverage::{CallKind, Terms, count_of, overlapping_of, terms_of};
 pub use damage::{AnomalyCount, Damage, damage_of};
 pub use diagnosis::{Diagnosis, diagnosis_of};

@@ -1,3 +1,4 @@
+use crate::calls::version_shown;
 use crate::reason::Reason;
 use doc_register::{Op, Reply};
 use events::Rec;
@@ -107,15 +108,17 @@ fn acknowledged_above(
 ) -> Result<AcknowledgedWrites, NoMemory> {
     let mut list = Vec::new(alloc);
     for record in records {
-        if let Some(write) = acknowledged_before(record, event) {
-            if base.is_none_or(|base| base.is_below(write.pair)) {
-                list.push(write)?;
-            }
+        match (acknowledged_before(record, event), base) {
+            (Some(write), Some(base)) if !base.is_below(write.pair) => (),
+            (Some(write), _) => list.push(write)?,
+            (None, _) => (),
         }
     }
     list.sort_unstable_by_key(|write| write.pair);
-    let deleted = last_delete(records, event);
-    let to_delete = deleted.map_or(0, |pair| count_to(&list, pair));
+    let to_delete = match last_delete(records, event) {
+        Some(pair) => count_to(&list, pair),
+        None => 0,
+    };
     Ok(AcknowledgedWrites { list, to_delete })
 }
 
@@ -145,7 +148,7 @@ fn shows_absence(record: &Rec) -> bool {
 // of a write that was performed asks for.
 fn pair_seen(record: &Rec) -> Option<Pair> {
     match record.op {
-        Op::Get => record.heard.and_then(|heard| heard.1.pair()),
+        Op::Get => version_shown(record),
         _ => record.pair_taken().and(record.op.condition()),
     }
 }
@@ -157,15 +160,20 @@ impl AcknowledgedWrites {
         if shows_absence(record) {
             return Some(self.to_delete);
         }
-        pair_seen(record).map(|pair| count_to(&self.list, pair))
+        match pair_seen(record) {
+            Some(pair) => Some(count_to(&self.list, pair)),
+            None => None,
+        }
     }
 
-    // Returns how many of the writes there are up to the last one that one of these calls shows; `None` if no
-    // reply shows a state of the document.
-    fn shown_in(&self, records: &[Rec]) -> Option<usize> {
+    // Returns how many of the writes there are up to the last one that a call after the event shows; `None` if no
+    // reply to one shows a state of the document.
+    fn shown_after(&self, records: &[Rec], event: usize) -> Option<usize> {
         let mut shown: Option<usize> = None;
         for record in records {
-            shown = shown.max(self.shown_by(record));
+            if record.call_at > event {
+                shown = shown.max(self.shown_by(record));
+            }
         }
         shown
     }
@@ -185,17 +193,19 @@ pub fn lost_writes(
     };
     let base = base_of(reason, records);
     let writes = acknowledged_above(alloc, records, reason.stop.call_at, base)?;
-    let later = records.partition_point(|record| record.call_at <= heard.0);
-    let Some(shown) = writes.shown_in(&records[later..]) else {
+    let Some(shown) = writes.shown_after(records, heard.0) else {
         return Ok(None);
     };
     let mut lost: Option<LostWrites> = None;
     for write in writes.list.iter().skip(shown) {
         let one = LostWrites::of(*write);
-        lost = Some(lost.map_or(one, |lost| lost.with(one)));
+        lost = Some(match lost {
+            Some(lost) => lost.with(one),
+            None => one,
+        });
     }
-    Ok(lost.map(|lost| LostWrites {
-        documents: 1,
-        ..lost
-    }))
+    if let Some(lost) = &mut lost {
+        lost.documents = 1;
+    }
+    Ok(lost)
 }

@@ -47,7 +47,10 @@ fn step_from(state: DocState, point: usize, place: Place, record: Rec) -> OrderS
     let taken = place.pair.or(record.pair_taken());
     OrderStep {
         record,
-        state: taken.map_or(state, |pair| state_after(state, &record.op, pair)),
+        state: match taken {
+            Some(pair) => state_after(state, &record.op, pair),
+            None => state,
+        },
         is_change: taken.is_some(),
         point: point.max(record.call_at),
     }

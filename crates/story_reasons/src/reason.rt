@@ -1,4 +1,7 @@
-use crate::calls::{EvidenceCalls, end_of};
+ghost use Rattle.std.specs.Prelude.{IfOk, IfSome};
+ghost use Rattle.evidence.specs.Evidence.{IsDocumentRuledOut};
+
+use crate::calls::{EvidenceCalls, end_of, version_shown};
 use crate::subject::Unexplained;
 use doc_register::Conflicts;
 use events::Rec;
@@ -62,11 +65,17 @@ impl Reason {
 
     /// Returns whether it names a call or a reply that stands after the event.
     pub fn names_after(&self, event: usize) -> bool {
-        let is_later = |record: &Rec| end_of(record) > event;
-        is_later(&self.stop)
-            || self.shower.is_some_and(|shower| is_later(&shower))
-            || self.links.iter().any(|link| is_later(&link.record))
-            || self.unreported.iter().any(|it| it.write.call_at > event)
+        let mut last = end_of(&self.stop);
+        if let Some(shower) = &self.shower {
+            last = last.max(end_of(shower));
+        }
+        for link in self.links.iter() {
+            last = last.max(end_of(&link.record));
+        }
+        for unreported in self.unreported.iter() {
+            last = last.max(unreported.write.call_at);
+        }
+        last > event
     }
 
     /// Returns whether some indeterminate write could have given the call a position.
@@ -106,9 +115,18 @@ fn version_spoken_of(standings: &Standings, stop: Rec, cause: Cause) -> Option<P
 /// Returns whether the reply to a call shows that the document had the version: the call found it, took it, or
 /// was performed on the condition that the document has it.
 pub fn shows(record: &Rec, pair: Pair) -> bool {
-    let shown = record.heard.and_then(|heard| heard.1.pair());
-    let asked = record.pair_taken().and(record.op.condition());
-    shown == Some(pair) || asked == Some(pair)
+    version_shown(record) == Some(pair)
+        || record.pair_taken().is_some() && record.op.condition() == Some(pair)
+}
+
+// Returns the first call whose reply shows that the document had the version.
+fn shower_of(records: &[Rec], pair: Pair) -> Option<Rec> {
+    for record in records {
+        if shows(record, pair) {
+            return Some(*record);
+        }
+    }
+    None
 }
 
 // Returns the record of a standing. There always is one: the standings are of these records.
@@ -161,8 +179,7 @@ fn chain_to(
             break;
         };
         links.push(link_of(standings, standing, record))?;
-        let is_shown = record.heard.is_some_and(|heard| heard.1.pair().is_some());
-        next = if is_shown {
+        next = if version_shown(&record).is_some() {
             None
         } else {
             bounding(standings, standing)
@@ -175,6 +192,21 @@ fn chain_to(
     })
 }
 
+// Adds the write of this number if no reply says whether it was performed, and there is room.
+fn add_unreported(
+    unreported: &mut Vec<Unreported>,
+    records: &[Rec],
+    standings: &Standings,
+    number: usize,
+) -> Result<(), NoMemory> {
+    if unreported.len() < MOST_LOST && standings.is_unreported(number) {
+        if let (Some(write), Some(why)) = (records.get(number), standings.unhelpful(number)) {
+            unreported.push(Unreported { write: *write, why })?;
+        }
+    }
+    Ok(())
+}
+
 // Returns the first few of the writes of which no reply says whether they were performed. Those that were made
 // last before the event come first.
 fn unreported_writes(
@@ -185,12 +217,11 @@ fn unreported_writes(
 ) -> Result<Vec<Unreported>, NoMemory> {
     let early = records.partition_point(|record| record.call_at < event);
     let mut unreported = Vec::new(alloc);
-    for number in (0..early).rev().chain(early..records.len()) {
-        if unreported.len() < MOST_LOST && standings.is_unreported(number) {
-            if let (Some(write), Some(why)) = (records.get(number), standings.unhelpful(number)) {
-                unreported.push(Unreported { write: *write, why })?;
-            }
-        }
+    for number in (0..early).rev() {
+        add_unreported(&mut unreported, records, standings, number)?;
+    }
+    for number in early..records.len() {
+        add_unreported(&mut unreported, records, standings, number)?;
     }
     Ok(unreported)
 }
@@ -214,9 +245,17 @@ fn reason_at(
 ) -> Result<Reason, NoMemory> {
     let event = end_of(&record);
     let last = version_spoken_of(standings, record, cause);
-    let shower = last.and_then(|pair| records.iter().find(|it| shows(it, pair)));
-    let all = (0..records.len()).filter(|number| standings.is_unreported(*number));
-    let unreported_count = all.count();
+    let shower = match last {
+        Some(pair) => shower_of(records, pair),
+        None => None,
+    };
+    let mut unreported_count = 0usize;
+    for number in 0..records.len() {
+        if standings.is_unreported(number) {
+            // There are as many records at most, so the sum never reaches the greatest number.
+            unreported_count = unreported_count.saturating_add(1);
+        }
+    }
     let Chain { links, is_cut } = chain_to(alloc, records, standings, stop, cause)?;
     let unreported = unreported_writes(alloc, records, standings, event)?;
     Ok(Reason {
@@ -226,7 +265,7 @@ fn reason_at(
         links,
         is_cut,
         last,
-        shower: shower.copied(),
+        shower,
         unreported,
         unreported_count,
         is_reported: is_reported(evidence, record.no),
@@ -262,7 +301,10 @@ pub fn reason_of(
     unexplained: &Unexplained<'_>,
     doc: usize,
     records: &[Rec],
-) -> Result<Option<Reason>, NoMemory> {
+) -> Result<Option<Reason>, NoMemory>
+    // If there is a reason, no order explains the document, whatever became of its calls without a reply.
+    ensures { IfOk result (λ found. IfSome found (λ _. IsDocumentRuledOut unexplained.now.conflicts unexplained.now.history.now doc)) }
+{
     let history = unexplained.history;
     let conflicts = unexplained.conflicts;
     if doc < history.docs() && is_document_ruled_out(alloc, history, doc, conflicts)? {

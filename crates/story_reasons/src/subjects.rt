@@ -36,6 +36,14 @@ impl<'h> Subject<'h> {
             None => self.records.as_slice(),
         }
     }
+
+    /// Returns why no order explains its calls in the whole history, if that is known already.
+    pub fn whole_reason(&self) -> Option<&Reason> {
+        match self.whole_records {
+            Some(_) => None,
+            None => self.reason.as_ref(),
+        }
+    }
 }
 
 /// The documents that an explanation is about.
@@ -49,8 +57,10 @@ pub struct Subjects<'h> {
 
 // Adds the number of the call's document, unless it is there.
 fn add_document(history: &History, no: u64, docs: &mut Vec<usize>) -> Result<(), NoMemory> {
-    let call = call_of(history, no);
-    if let Some(doc) = call.and_then(|call| history.doc_of(call.id)) {
+    let Some(call) = call_of(history, no) else {
+        return Ok(());
+    };
+    if let Some(doc) = history.doc_of(call.id) {
         if !docs.contains(&doc) {
             docs.push(doc)?;
         }
@@ -86,7 +96,10 @@ fn whole_records(unexplained: &Unexplained<'_>, id: &DocId) -> Result<Option<Vec
 
 // Whether the reply to the call stands up to the broken one.
 fn is_early(unexplained: &Unexplained<'_>, no: u64) -> bool {
-    call_of(unexplained.history, no).is_some_and(|call| end_of(&call.record) <= unexplained.event)
+    match call_of(unexplained.history, no) {
+        Some(call) => end_of(&call.record) <= unexplained.event,
+        None => false,
+    }
 }
 
 // Whether there is no evidence of one call or two.
@@ -101,7 +114,7 @@ fn is_evident_early(unexplained: &Unexplained<'_>) -> bool {
         Some(evidence) => {
             let calls = EvidenceCalls::of(evidence);
             is_early(unexplained, calls.first)
-                && calls.second.is_none_or(|no| is_early(unexplained, no))
+                && is_early(unexplained, calls.second.unwrap_or(calls.first))
         }
     }
 }
@@ -140,11 +153,16 @@ impl<'h> Subjects<'h> {
         if is_evident_early(&self.unexplained) {
             return false;
         }
-        let event = self.unexplained.event;
-        let mut reasons = self
-            .list
-            .iter()
-            .filter_map(|subject| subject.reason.as_ref());
-        !is_ruled_out(&self.unexplained) || reasons.any(|reason| reason.names_after(event))
+        if !is_ruled_out(&self.unexplained) {
+            return true;
+        }
+        for subject in self.list.iter() {
+            if let Some(reason) = &subject.reason {
+                if reason.names_after(self.unexplained.event) {
+                    return true;
+                }
+            }
+        }
+        false
     }
 }

@@ -25,13 +25,16 @@ struct Start {
 
 // Returns the one of two writes with the greater pair; the first if the second took none.
 fn with_greater_pair(last: Option<Rec>, record: Rec) -> Option<Rec> {
-    match (
-        last.and_then(|record| record.pair_taken()),
-        record.pair_taken(),
-    ) {
-        (Some(before), Some(pair)) if pair.is_below(before) => last,
-        (_, Some(_)) => Some(record),
-        (_, None) => last,
+    let Some(pair) = record.pair_taken() else {
+        return last;
+    };
+    let before = match &last {
+        Some(last) => last.pair_taken(),
+        None => None,
+    };
+    match before {
+        Some(before) if pair.is_below(before) => last,
+        _ => Some(record),
     }
 }
 
@@ -51,8 +54,8 @@ fn start_of(records: &[Rec], event: usize, conflicts: Conflicts, least: usize) -
         if !known.is_complete(conflicts) {
             break;
         }
-        if let Some(place) = known.heard.map(|heard| heard.0) {
-            open_until = open_until.max(place);
+        if let Some(heard) = known.heard {
+            open_until = open_until.max(heard.0);
         }
         next.last = with_greater_pair(next.last, known);
     }
@@ -61,12 +64,12 @@ fn start_of(records: &[Rec], event: usize, conflicts: Conflicts, least: usize) -
 
 // Returns a write that brings a document that was never written to the state that it has after this one.
 fn standing(last: Rec) -> Option<Rec> {
-    let place = last.heard.map(|heard| heard.0)?;
+    let heard = last.heard?;
     let pair = last.pair_taken()?;
     let (op, reply) = state_after(DocState::Never, &last.op, pair).making()?;
     Some(Rec {
         op,
-        heard: Some((place, reply)),
+        heard: Some((heard.0, reply)),
         ..last
     })
 }
@@ -83,19 +86,25 @@ pub fn window_before(
     let count = records.partition_point(|record| record.call_at < event);
     let called = &records[..count];
     let start = start_of(called, event, conflicts, least);
-    let before = called.iter().take(start.at);
-    let answered = before.filter(|record| record.known_before(event).heard.is_some());
     let mut window = Window {
-        answered_before: answered.count(),
+        answered_before: 0,
         is_prefixed: false,
         records: Vec::new(alloc),
     };
-    if let Some(write) = start.last.and_then(standing) {
-        window.is_prefixed = true;
-        window.records.push(write)?;
+    if let Some(last) = start.last {
+        if let Some(write) = standing(last) {
+            window.is_prefixed = true;
+            window.records.push(write)?;
+        }
     }
-    for record in called.iter().skip(start.at) {
-        window.records.push(record.known_before(event))?;
+    for (i, record) in called.iter().enumerate() {
+        let known = record.known_before(event);
+        if i >= start.at {
+            window.records.push(known)?;
+        } else if known.heard.is_some() {
+            // A document has too few calls for the sum to reach the greatest number.
+            window.answered_before = window.answered_before.saturating_add(1);
+        }
     }
     Ok(window)
 }

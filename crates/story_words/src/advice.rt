@@ -16,10 +16,11 @@ pub fn add_advice(
         return Ok(());
     };
     let words = words_of(found.anomaly);
-    draft.heading("First rule out")?;
-    draft.paragraph(words.rule_out, &[])?;
+    draft.heading("First rule out");
+    draft.paragraph(words.rule_out, &[]);
     add_signs(draft, unexplained, subjects, found)?;
-    draft.heading("Then")?;
-    draft.paragraph(words.look, &[])?;
-    draft.paragraph(KEEP, &[])
+    draft.heading("Then");
+    draft.paragraph(words.look, &[]);
+    draft.paragraph(KEEP, &[]);
+    Ok(())
 }

@@ -1,50 +1,57 @@
 use places::DocWitness;
-use std::alloc::Global;
+use story_blocks::Draft;
 use story_blocks::Word::{Count, Id, Number};
-use story_blocks::{Block, Draft, add_sentence};
 use story_reasons::{CallKind, Explained, Terms, count_of, overlapping_of, terms_of};
-use version_pair::{DocId, NoMemory};
 
 // The number of documents that are named.
 const MOST_NAMED: usize = 3;
 
-// A document with the number of its calls.
+// The number of a document, from 0, and that of its calls.
 #[derive(Clone, Copy)]
-struct Busy<'w> {
-    id: &'w DocId,
+struct Busy {
+    doc: usize,
     calls: usize,
 }
 
-// Returns the documents with the most calls, in words.
-fn busiest_words(alloc: Global, witnesses: &[DocWitness]) -> Result<String, NoMemory> {
-    let mut all = Vec::new(alloc);
-    for witness in witnesses {
-        all.push(Busy {
-            id: witness.id(),
-            calls: witness.records().len(),
-        })?;
-    }
-    all.sort_by_key(|busy| usize::MAX - busy.calls)?;
-    let mut words = String::from_str(alloc, "documents with the most calls:")?;
-    for (i, busy) in all.iter().take(MOST_NAMED).enumerate() {
-        if i > 0 {
-            words.push_str(",")?;
+// Returns the document with the most calls, the first of several, after the one that was found last.
+fn busiest_after(witnesses: &[DocWitness], last: Option<Busy>) -> Option<Busy> {
+    let mut busiest: Option<Busy> = None;
+    for (doc, witness) in witnesses.iter().enumerate() {
+        let calls = witness.records().len();
+        let is_left = match last {
+            Some(last) => calls < last.calls || calls == last.calls && doc > last.doc,
+            None => true,
+        };
+        let is_busier = match busiest {
+            Some(busiest) => calls > busiest.calls,
+            None => true,
+        };
+        if is_left && is_busier {
+            busiest = Some(Busy { doc, calls });
         }
-        add_sentence(&mut words, " {} with {}", &[Id(busy.id), Count(busy.calls)])?;
     }
-    Ok(words)
+    busiest
 }
 
-// Returns the primary terms that replies show, in words.
-fn terms_words(draft: &Draft<'_>, terms: Option<Terms>) -> Result<String, NoMemory> {
-    match terms {
-        Some(terms) if terms.least < terms.greatest => draft.sentence(
-            "primary terms seen: {} to {}",
-            &[Number(terms.least), Number(terms.greatest)],
-        ),
-        Some(terms) => draft.sentence("primary terms seen: {}", &[Number(terms.least)]),
-        None => draft.sentence("primary terms seen: none", &[]),
+// Adds the documents with the most calls, as an item.
+fn add_busiest(draft: &mut Draft<'_>, witnesses: &[DocWitness]) {
+    draft.say(&["documents with the most calls:"], &[]);
+    let mut last: Option<Busy> = None;
+    for i in 0..MOST_NAMED {
+        let Some(busy) = busiest_after(witnesses, last) else {
+            break;
+        };
+        if let Some(witness) = witnesses.get(busy.doc) {
+            let template = if i == 0 {
+                " {} with {}"
+            } else {
+                ", {} with {}"
+            };
+            draft.say(&[template], &[Id(witness.id()), Count(busy.calls)]);
+        }
+        last = Some(busy);
     }
+    draft.end_item();
 }
 
 // What the calls are able to show.
@@ -54,6 +61,7 @@ struct Coverage {
     gets: usize,
     performed: usize,
     conflicts: usize,
+    unanswered: usize,
     terms: Option<Terms>,
 }
 
@@ -64,79 +72,70 @@ fn coverage_of(witnesses: &[DocWitness]) -> Coverage {
         gets: count_of(witnesses, CallKind::Get),
         performed: count_of(witnesses, CallKind::Performed),
         conflicts: count_of(witnesses, CallKind::Conflict),
+        unanswered: count_of(witnesses, CallKind::Unanswered),
         terms: terms_of(witnesses),
     }
 }
 
-// Returns what the calls cover, in words.
-fn items_of(
-    draft: &Draft<'_>,
-    explained: &Explained<'_>,
-    coverage: &Coverage,
-) -> Result<Vec<String>, NoMemory> {
-    let witnesses = explained.witnesses;
-    let mut items = Vec::new(draft.alloc);
-    draft.item(
-        &mut items,
-        "calls that overlapped another call of their document: {} of {}",
-        &[Count(coverage.overlapping), Count(explained.calls)],
-    )?;
-    draft.item(
-        &mut items,
-        "gets that were answered: {}",
-        &[Count(coverage.gets)],
-    )?;
-    draft.item(
-        &mut items,
-        "conditional writes, creates included: {} performed, {} answered with a conflict",
-        &[Count(coverage.performed), Count(coverage.conflicts)],
-    )?;
-    draft.item(
-        &mut items,
-        "writes without a reply: {}",
-        &[Count(count_of(witnesses, CallKind::Unanswered))],
-    )?;
-    items.push(terms_words(draft, coverage.terms)?)?;
-    items.push(busiest_words(draft.alloc, witnesses)?)?;
-    Ok(items)
+// Adds the primary terms that replies show, as an item.
+fn add_terms(draft: &mut Draft<'_>, terms: Option<Terms>) {
+    match terms {
+        Some(terms) if terms.least < terms.greatest => draft.item(
+            "primary terms seen: {} to {}",
+            &[Number(terms.least), Number(terms.greatest)],
+        ),
+        Some(terms) => draft.item("primary terms seen: {}", &[Number(terms.least)]),
+        None => draft.item("primary terms seen: none", &[]),
+    }
 }
 
-// Returns why the recording can show little; `None` if nothing speaks for that.
-fn warning_words(coverage: &Coverage) -> Option<&'static str> {
+// Adds how many calls of each kind there are, as items.
+fn add_counts(draft: &mut Draft<'_>, coverage: &Coverage, calls: usize) {
+    draft.item(
+        "calls that overlapped another call of their document: {} of {}",
+        &[Count(coverage.overlapping), Count(calls)],
+    );
+    draft.item("gets that were answered: {}", &[Count(coverage.gets)]);
+    draft.item(
+        "conditional writes, creates included: {} performed, {} answered with a conflict",
+        &[Count(coverage.performed), Count(coverage.conflicts)],
+    );
+    draft.item("writes without a reply: {}", &[Count(coverage.unanswered)]);
+}
+
+// Adds why the recording can show little, if something speaks for that.
+fn add_warnings(draft: &mut Draft<'_>, coverage: &Coverage) {
     if coverage.gets == 0 && coverage.performed == 0 && coverage.conflicts == 0 {
-        Some(
+        draft.paragraph(
             "This recording can show little: neither a get nor a condition asks for what was written.",
-        )
+            &[],
+        );
     } else if coverage.overlapping == 0 {
-        Some(
+        draft.paragraph(
             "This recording can show little: no two calls of a document overlapped, so nothing can be seen that goes wrong only between calls at the same time.",
-        )
-    } else {
-        None
+            &[],
+        );
+    }
+    match coverage.terms {
+        Some(terms) if terms.least == terms.greatest => draft.paragraph(
+            "All versions are of one primary term, so no change of the primary left a trace in this recording.",
+            &[],
+        ),
+        _ => (),
     }
 }
 
 /// Adds what a history that an order explains is able to show, with a warning if that is little. Adds nothing
 /// if there are no calls.
-pub fn add_coverage(draft: &mut Draft<'_>, explained: &Explained<'_>) -> Result<(), NoMemory> {
+pub fn add_coverage(draft: &mut Draft<'_>, explained: &Explained<'_>) {
     if explained.calls == 0 {
-        return Ok(());
+        return;
     }
     let coverage = coverage_of(explained.witnesses);
-    draft.heading("What this recording is able to show")?;
-    let items = items_of(draft, explained, &coverage)?;
-    draft.add(Block::Items(items))?;
-    if let Some(warning) = warning_words(&coverage) {
-        draft.paragraph(warning, &[])?;
-    }
-    if coverage
-        .terms
-        .is_some_and(|terms| terms.least == terms.greatest)
-    {
-        draft.paragraph(
-            "All versions are of one primary term, so no change of the primary left a trace in this recording.",
-            &[],
-        )?;
-    }
-    Ok(())
+    draft.heading("What this recording is able to show");
+    add_counts(draft, &coverage, explained.calls);
+    add_terms(draft, coverage.terms);
+    add_busiest(draft, explained.witnesses);
+    draft.end_list(0, "");
+    add_warnings(draft, &coverage);
 }

@@ -1,158 +1,94 @@
 use doc_register::Conflicts;
 use events::Rec;
 use evidence::Refuted;
-use story_blocks::Word::{Asked, Id, Number, Version};
+use story_blocks::Word::{Id, Number};
 use story_blocks::{Draft, unreported_kind};
 use story_reasons::{Call, EvidenceCalls, Unexplained, call_of};
-use version_pair::{NoMemory, Pair};
 
-// Explains two writes with one version.
-fn pair_twice<'h>(
-    draft: &Draft<'_>,
-    first: &Call<'h>,
-    second: &Call<'h>,
-    taken: Pair,
-) -> Result<String, NoMemory> {
-    draft.sentence(
-        "Call {}, a write of {}, was answered with the version {} (line {}), and so was call {}, a write of {} (line {}). Both are on shard {}, and a shard gives each pair of _primary_term and _seq_no to one write only. So no order can have both replies.",
-        &[
-            Number(first.record.no),
-            Id(first.id),
-            Version(taken),
-            draft.replied(&first.record),
-            Number(second.record.no),
-            Id(second.id),
-            draft.replied(&second.record),
-            Number(first.shard as u64),
-        ],
-    )
-}
+// The words of these templates are those of `add_evidence`: 0 and 1 are the two calls that the evidence names, in its
+// order, 2 and 3 their documents, 4 their shard, and 5 which writes have no reply that says whether they were performed.
 
-// Explains a get of what nobody wrote.
-fn no_writer(
-    draft: &Draft<'_>,
-    get: &Call<'_>,
-    (pair, k): (Pair, u64),
-    conflicts: Conflicts,
-) -> Result<String, NoMemory> {
-    draft.sentence(
-        "Call {}, a get, was answered with k={} at the version {} (line {}). No write that was called before that reply can have given {} the number {} at {}: no reply shows both, and no write with k={} was {}. So no order explains what the get found.",
-        &[
-            Number(get.record.no),
-            Number(k),
-            Version(pair),
-            draft.replied(&get.record),
-            Id(get.id),
-            Number(k),
-            Version(pair),
-            Number(k),
-            unreported_kind(conflicts),
-        ],
-    )
-}
+const PAIR_TWICE: &str =
+    "Call {0.no}, a write of {2}, was answered with the version {0.version} (line {0.replied}), and so was call {1.no}, a write of {3} (line {1.replied}). Both are on shard {4}, and a shard gives each pair of _primary_term and _seq_no to one write only. So no order can have both replies.";
 
-// Explains a get of a version that was replaced before.
-fn stale_get(
-    draft: &Draft<'_>,
-    get: &Call<'_>,
-    write: &Call<'_>,
-    found: Pair,
-    taken: Pair,
-) -> Result<String, NoMemory> {
-    draft.sentence(
-        "Call {} ({}) was answered with the version {} (line {}) before call {}, a get, was made (line {}). So each order has the write before the get. But the get was answered with {} (line {}), which is older than {}, and a document never goes back to an older version. So no order can have both replies.",
-        &[
-            Number(write.record.no),
-            Asked(write.record.op),
-            Version(taken),
-            draft.replied(&write.record),
-            Number(get.record.no),
-            draft.called(&get.record),
-            Version(found),
-            draft.replied(&get.record),
-            Version(taken),
-        ],
-    )
-}
+const NO_WRITER: &str =
+    "Call {0.no}, a get, was answered with k={0.k} at the version {0.version} (line {0.replied}). No write that was called before that reply can have given {2} the number {0.k} at {0.version}: no reply shows both, and no write with k={0.k} was {5}. So no order explains what the get found.";
+
+const STALE_GET: &str =
+    "Call {1.no} ({1.asked}) was answered with the version {1.version} (line {1.replied}) before call {0.no}, a get, was made (line {0.called}). So each order has the write before the get. But the get was answered with {0.version} (line {0.replied}), which is older than {1.version}, and a document never goes back to an older version. So no order can have both replies.";
+
+const STALE_SWAP: &str =
+    "Call {1.no} was to be performed only if the document is still at the version {1.condition}, and it was performed (line {1.replied}). But call {0.no} had given the document the newer version {0.version} (line {0.replied}), and it comes first: ";
+
+const OVERWRITTEN: &str =
+    ". So the document was past {1.condition} by then, and no order can have both replies: the condition was not honoured, and what call {0.no} wrote was overwritten unseen.";
 
 // Says why the first write comes before the second.
-fn add_first_because(draft: &mut Draft<'_>, first: &Rec, second: &Rec) -> Result<(), NoMemory> {
-    if first.heard.is_some_and(|heard| heard.0 < second.call_at) {
-        draft.say(
-            "call {} was answered before call {} was made (line {})",
-            &[Number(first.no), Number(second.no), draft.called(second)],
-        )
-    } else {
-        draft.say(
-            "the version of call {} is the older of the two, so it took effect before call {}",
-            &[Number(first.no), Number(second.no)],
-        )
+fn first_because(first: &Rec, second: &Rec) -> &'static str {
+    match first.heard {
+        Some(heard) if heard.0 < second.call_at => {
+            "call {0.no} was answered before call {1.no} was made (line {1.called})"
+        }
+        _ =>
+            "the version of call {0.no} is the older of the two, so it took effect before call {1.no}",
     }
 }
 
-// Says what follows from a write whose condition asks for a version that the first one replaced.
-fn add_overwritten(draft: &mut Draft<'_>, first: &Rec, asked: Pair) -> Result<(), NoMemory> {
-    draft.say(
-        ". So the document was past {} by then, and no order can have both replies: the condition was not honoured, and what call {} wrote was overwritten unseen.",
-        &[Version(asked), Number(first.no)],
-    )
+// Returns why no order can have what the evidence names, as templates.
+fn evidence_templates(evidence: Refuted, first: &Rec, second: &Rec) -> [&'static str; 3] {
+    match evidence {
+        Refuted::PairTwice(..) => [PAIR_TWICE, "", ""],
+        Refuted::NoWriter(_) => [NO_WRITER, "", ""],
+        Refuted::StaleGet(..) => [STALE_GET, "", ""],
+        Refuted::StaleSwap(..) => [STALE_SWAP, first_because(first, second), OVERWRITTEN],
+        // Its reasons are those of its document.
+        Refuted::RuledOut(_) => ["", "", ""],
+    }
 }
 
-// Explains a write whose condition asks for a version that was replaced before.
-fn add_stale_swap(
-    draft: &mut Draft<'_>,
-    first: &Rec,
-    second: &Rec,
-    taken: Pair,
-    asked: Pair,
-) -> Result<(), NoMemory> {
-    draft.say(
-        "Call {} was to be performed only if the document is still at the version {}, and it was performed (line {}). ",
-        &[Number(second.no), Version(asked), draft.replied(second)],
-    )?;
-    draft.say(
-        "But call {} had given the document the newer version {} (line {}), and it comes first: ",
-        &[Number(first.no), Version(taken), draft.replied(first)],
-    )?;
-    add_first_because(draft, first, second)?;
-    add_overwritten(draft, first, asked)
+/// Evidence of one call or two, with these calls; if it is of one, that is both of them.
+#[derive(Clone, Copy)]
+pub struct EvidentCalls<'h> {
+    evidence: Refuted,
+    first: Call<'h>,
+    second: Call<'h>,
 }
 
-/// Returns why no order can have what the evidence names, in words. Returns `None` if there is none, if the
-/// history doesn't have its calls, and for `Refuted::RuledOut`.
-pub fn evidence_words(
-    draft: &mut Draft<'_>,
-    unexplained: &Unexplained<'_>,
-) -> Result<Option<String>, NoMemory> {
-    let Some(evidence) = unexplained.evidence else {
-        return Ok(None);
+/// Returns the evidence with its calls. Returns `None` if there is none, if the history doesn't have its calls, and for
+/// `Refuted::RuledOut`.
+pub fn evident_calls<'h>(unexplained: &Unexplained<'h>) -> Option<EvidentCalls<'h>> {
+    let evidence = match unexplained.evidence {
+        None | Some(Refuted::RuledOut(_)) => return None,
+        Some(evidence) => evidence,
     };
     let history = unexplained.history;
     let calls = EvidenceCalls::of(evidence);
-    let second = call_of(history, calls.second.unwrap_or(calls.first));
-    let (Some(first), Some(second)) = (call_of(history, calls.first), second) else {
-        return Ok(None);
-    };
-    let words = match (evidence, first.record.pair_taken(), first.found()) {
-        (Refuted::PairTwice(..), Some(pair), _) => pair_twice(draft, &first, &second, pair)?,
-        (Refuted::NoWriter(_), _, Some(found)) => no_writer(
-            draft,
-            &first,
-            found,
-            unexplained.conflicts,
-        )?,
-        (Refuted::StaleGet(..), _, Some((found, _))) => match second.record.pair_taken() {
-            Some(taken) => stale_get(draft, &first, &second, found, taken)?,
-            None => return Ok(None),
-        },
-        (Refuted::StaleSwap(..), Some(taken), _) => match second.record.op.condition() {
-            Some(asked) => {
-                add_stale_swap(draft, &first.record, &second.record, taken, asked)?;
-                draft.said()
-            }
-            None => return Ok(None),
-        },
-        _ => return Ok(None),
-    };
-    Ok(Some(words))
+    let second = calls.second.unwrap_or(calls.first);
+    match (call_of(history, calls.first), call_of(history, second)) {
+        (Some(first), Some(second)) => Some(EvidentCalls {
+            evidence,
+            first,
+            second,
+        }),
+        _ => None,
+    }
+}
+
+/// Adds why no order can have what the evidence names.
+pub fn add_evidence(draft: &mut Draft<'_>, evident: &EvidentCalls<'_>, conflicts: Conflicts) {
+    let first = &evident.first;
+    let second = &evident.second;
+    let templates = evidence_templates(evident.evidence, &first.record, &second.record);
+    draft.say(
+        &templates,
+        &[
+            draft.call(&first.record),
+            draft.call(&second.record),
+            Id(first.id),
+            Id(second.id),
+            Number(first.shard as u64),
+            unreported_kind(conflicts),
+        ],
+    );
+    draft.end_paragraph();
 }

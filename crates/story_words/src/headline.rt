@@ -3,7 +3,6 @@ use evidence::Certainty;
 use story_blocks::Draft;
 use story_blocks::Word::{Id, Number, Text};
 use story_reasons::{Anomaly, Diagnosis, Unexplained, call_of};
-use version_pair::NoMemory;
 
 // Returns what an explanation is about, as a template that the number of the call is given to.
 fn title_of(certainty: Certainty) -> &'static str {
@@ -50,25 +49,25 @@ pub fn add_headline(
     draft: &mut Draft<'_>,
     unexplained: &Unexplained<'_>,
     found: Option<Diagnosis>,
-) -> Result<String, NoMemory> {
+) -> String {
     let title = title_of(unexplained.certainty);
     let number = Number(unexplained.call);
     let named = match found {
-        Some(found) if found.anomaly != Anomaly::Unnamed => call_of(
-            unexplained.history,
-            found.call,
-        ),
+        Some(found) if !matches!(found.anomaly, Anomaly::Unnamed) => {
+            call_of(unexplained.history, found.call)
+        }
         _ => None,
     };
     let (Some(call), Some(found)) = (named, found) else {
-        return draft.sentence(title, &[number]);
+        return draft.text(title, &[number]);
     };
-    draft.paragraph(title, &[number])?;
-    let no = Number(found.call);
-    let what = Text(words_of(found.anomaly).what);
-    let line = draft.replied(&call.record);
-    draft.sentence(
-        "{} (call {} of {}, line {}).",
-        &[what, no, Id(call.id), line],
+    draft.paragraph(title, &[number]);
+    draft.text(
+        "{0} (call {1.no} of {2}, line {1.replied}).",
+        &[
+            Text(words_of(found.anomaly).what),
+            draft.call(&call.record),
+            Id(call.id),
+        ],
     )
 }

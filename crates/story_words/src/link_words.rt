@@ -1,66 +1,45 @@
 use doc_register::{Op, Reply};
 use events::Rec;
-use story_blocks::Word::{Asked, Number, Reached, Text, Version};
-use story_blocks::{Draft, add_sentence};
+use story_blocks::Draft;
+use story_blocks::Word::Reached;
 use story_reasons::ReasonLink;
-use version_pair::NoMemory;
 
-// Says what a call that shows no version was answered, on which line, and what follows for the document.
-fn add_said(draft: &mut Draft<'_>, record: &Rec) -> Result<(), NoMemory> {
+// Returns what a call that shows no version was answered, on which line, and what follows for the document.
+fn unshown_template(record: &Rec) -> &'static str {
     match (record.op, record.op.condition()) {
-        (Op::Get, _) => draft.say(
-            "was answered \"not found\" (line {}), so the document had been deleted by then",
-            &[draft.replied(record)],
-        ),
-        (_, Some(asked)) => draft.say(
-            "was answered with a conflict on {} (line {}), so the document was not at {} by then",
-            &[Version(asked), draft.replied(record), Version(asked)],
-        ),
-        (_, None) => draft.say(
-            "was answered with a conflict (line {}), so the document was there by then",
-            &[draft.replied(record)],
-        ),
+        (Op::Get, _) =>
+            "was answered \"not found\" (line {0.replied}), so the document had been deleted by then: it had {1}, at least. ",
+        (_, Some(_)) =>
+            "was answered with a conflict on {0.condition} (line {0.replied}), so the document was not at {0.condition} by then: it had {1}, at least. ",
+        (_, None) =>
+            "was answered with a conflict (line {0.replied}), so the document was there by then: it had {1}, at least. ",
     }
 }
 
-// Adds a call whose reply shows no version, as a sentence.
-fn add_unshown(draft: &mut Draft<'_>, link: &ReasonLink, is_first: bool) -> Result<(), NoMemory> {
-    let record = &link.record;
-    draft.say(
-        "Call {} ({}) was made{} (line {}) and ",
-        &[
-            Number(record.no),
-            Asked(record.op),
-            Text(if is_first { "" } else { " after that" }),
-            draft.called(record),
+// Returns a call of a chain as templates.
+fn link_templates(record: &Rec, is_first: bool) -> [&'static str; 2] {
+    match record.heard {
+        Some((_, Reply::Indexed { .. } | Reply::Deleted { .. })) => [
+            "Call {0.no} ({0.asked}) was answered with the version {0.version} (line {0.replied}), so the document had reached it by then. ",
+            "",
         ],
-    )?;
-    add_said(draft, record)?;
-    draft.say(": it had {}, at least.", &[Reached(link.to)])
+        Some((_, Reply::Found { .. })) => [
+            "Call {0.no}, a get, was answered with k={0.k} at the version {0.version} (line {0.replied}), so the document had reached it by then. ",
+            "",
+        ],
+        _ if is_first => [
+            "Call {0.no} ({0.asked}) was made (line {0.called}) and ",
+            unshown_template(record),
+        ],
+        _ => [
+            "Call {0.no} ({0.asked}) was made after that (line {0.called}) and ",
+            unshown_template(record),
+        ],
+    }
 }
 
 /// Adds a call of a chain as a sentence.
-pub fn add_link(draft: &mut Draft<'_>, link: &ReasonLink, is_first: bool) -> Result<(), NoMemory> {
-    let no = link.record.no;
-    match link.record.heard.map(|heard| heard.1) {
-        Some(Reply::Indexed { pair, .. } | Reply::Deleted { pair, .. }) => draft.say(
-            "Call {} ({}) was answered with the version {} (line {}), so the document had reached it by then.",
-            &[
-                Number(no),
-                Asked(link.record.op),
-                Version(pair),
-                draft.replied(&link.record),
-            ],
-        ),
-        Some(Reply::Found { pair, k }) => draft.say(
-            "Call {}, a get, was answered with k={} at the version {} (line {}), so the document had reached it by then.",
-            &[
-                Number(no),
-                Number(k),
-                Version(pair),
-                draft.replied(&link.record),
-            ],
-        ),
-        Some(Reply::Missing | Reply::Conflict) | None => add_unshown(draft, link, is_first),
-    }
+pub fn add_link(draft: &mut Draft<'_>, link: &ReasonLink, is_first: bool) {
+    let templates = link_templates(&link.record, is_first);
+    draft.say(&templates, &[draft.call(&link.record), Reached(link.to)]);
 }

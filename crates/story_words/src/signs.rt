@@ -2,101 +2,99 @@ use doc_register::Op;
 use events::Rec;
 use evidence::Refuted;
 use story_blocks::Draft;
-use story_blocks::Word::{Number, Version};
-use story_reasons::{Anomaly, Diagnosis, Subject, Unexplained, call_of, shows, version_fall};
+use story_blocks::Word::Version;
+use story_reasons::{
+    Anomaly, Diagnosis, Subject, Unexplained, call_of, is_answered_before, record_of, shows,
+    version_fall, version_shown,
+};
 use version_pair::{NoMemory, Pair};
-
-// Returns the version that the reply to a call shows, if there is one.
-fn shown_by(record: &Rec) -> Option<Pair> {
-    record.heard.and_then(|heard| heard.1.pair())
-}
-
-// Whether the reply to the call stands before the event.
-fn is_answered_before(record: &Rec, event: usize) -> bool {
-    record.heard.is_some_and(|heard| heard.0 < event)
-}
 
 // Returns the greatest version that a reply before the event shows.
 fn reached_before(records: &[Rec], event: usize) -> Option<Pair> {
     let mut reached: Option<Pair> = None;
     for record in records {
         if is_answered_before(record, event) {
-            reached = reached.max(shown_by(record));
+            reached = reached.max(version_shown(record));
         }
     }
     reached
 }
 
-// Whether the reply to a call shows no version, or one below this one.
-fn is_short_of(record: &Rec, pair: Pair) -> bool {
-    shown_by(record).is_none_or(|shown| shown.is_below(pair))
+// Returns the version that the document had reached before the get was made, if the reply to the get shows none or one
+// below it, and another get could show it: it isn't that of a delete.
+fn missed_by(get: &Rec, records: &[Rec]) -> Option<Pair> {
+    let reached = reached_before(records, get.call_at)?;
+    let is_short = match version_shown(get) {
+        Some(shown) => shown.is_below(reached),
+        None => true,
+    };
+    if !is_short || !matches!(get.op, Op::Get) {
+        return None;
+    }
+    for record in records {
+        if matches!(record.op, Op::Delete { .. }) && record.pair_taken() == Some(reached) {
+            return None;
+        }
+    }
+    Some(reached)
 }
 
-// Whether a delete was given the version: no get can show it.
-fn is_of_delete(records: &[Rec], pair: Pair) -> bool {
-    records.iter().any(|it| { matches!(it.op, Op::Delete { .. }) && it.pair_taken() == Some(pair) })
+// Returns the first call that was made after the event and whose reply shows the version.
+fn shown_after(records: &[Rec], event: usize, pair: Pair) -> Option<Rec> {
+    for record in records {
+        if record.call_at > event && shows(record, pair) {
+            return Some(*record);
+        }
+    }
+    None
 }
 
 // Adds whether a call that was made after the reply to a get shows the version again that the document had
 // reached before the get was made; nothing if the reply isn't short of that version, or no get can show it.
-fn add_again(draft: &mut Draft<'_>, records: &[Rec], broken: &Rec) -> Result<(), NoMemory> {
-    let (Some(pair), Some(heard)) = (reached_before(records, broken.call_at), broken.heard) else {
-        return Ok(());
+fn add_again(draft: &mut Draft<'_>, records: &[Rec], broken: &Rec) {
+    let (Some(pair), Some(heard)) = (missed_by(broken, records), broken.heard) else {
+        return;
     };
-    if broken.op != Op::Get || !is_short_of(broken, pair) || is_of_delete(records, pair) {
-        return Ok(());
-    }
-    let version = Version(pair);
-    let get = Number(broken.no);
-    let first = records.partition_point(|record| record.call_at <= heard.0);
-    match records[first..].iter().find(|it| shows(it, pair)) {
-        Some(later) => {
-            let words = [version, Number(later.no), draft.replied(later), get];
-            draft.paragraph(
-                "The version {} is shown again by call {} (line {}), which was made after the reply to call {}: so it was not lost for good, which suggests a reply from an older copy.",
-                &words,
-            )
-        }
+    match shown_after(records, heard.0, pair) {
+        Some(later) => draft.paragraph(
+            "The version {0} is shown again by call {1.no} (line {1.replied}), which was made after the reply to call {2.no}: so it was not lost for good, which suggests a reply from an older copy.",
+            &[Version(Some(pair)), draft.call(&later), draft.call(broken)],
+        ),
         None => draft.paragraph(
-            "No call that was made after the reply to call {} shows the version {} again, so nothing here says whether it is still there.",
-            &[get, version],
+            "No call that was made after the reply to call {1.no} shows the version {0} again, so nothing here says whether it is still there.",
+            &[Version(Some(pair)), draft.call(broken)],
         ),
     }
 }
 
-// What is said if no version falls back, though the document was written after the reply.
-const NO_FALL: &str =
-    "The versions that the document's writes were given never fall back, neither before nor after the reply that broke the order, which speaks against an index that was re-created.";
-
-// Whether a write that was called after the reply to this call was performed.
-fn is_written_after(records: &[Rec], broken: &Rec) -> bool {
-    let end = broken.heard.map_or(usize::MAX, |heard| heard.0);
-    let first = records.partition_point(|record| record.call_at <= end);
-    records[first..]
-        .iter()
-        .any(|later| later.pair_taken().is_some())
+// Whether a write that was called after the event was performed.
+fn is_written_after(records: &[Rec], event: usize) -> bool {
+    for record in records {
+        if record.call_at > event && record.pair_taken().is_some() {
+            return true;
+        }
+    }
+    false
 }
 
 // Adds whether the versions of the document fall back; nothing if they don't and nothing was written after the
 // reply.
 fn add_fall(draft: &mut Draft<'_>, records: &[Rec], broken: &Rec) -> Result<(), NoMemory> {
-    let Some(fall) = version_fall(draft.alloc, records)? else {
-        if is_written_after(records, broken) {
-            draft.paragraph(NO_FALL, &[])?;
-        }
-        return Ok(());
-    };
-    let words = [
-        Number(fall.before.write.no),
-        Version(fall.before.pair),
-        Number(fall.after.write.no),
-        Version(fall.after.pair),
-        draft.replied(&fall.after.write),
-    ];
-    draft.paragraph(
-        "The document's versions fall back: call {} was given {}, and call {}, made after that reply, {} (line {}). This suggests an index that was re-created, or for a copy that counted on from older data.",
-        &words,
-    )
+    match (version_fall(draft.alloc, records)?, broken.heard) {
+        (Some(fall), _) => draft.paragraph(
+            "The document's versions fall back: call {0.no} was given {0.version}, and call {1.no}, made after that reply, {1.version} (line {1.replied}). This suggests an index that was re-created, or for a copy that counted on from older data.",
+            &[
+                draft.call(&fall.before.write),
+                draft.call(&fall.after.write),
+            ],
+        ),
+        (None, Some(heard)) if is_written_after(records, heard.0) => draft.paragraph(
+            "The versions that the document's writes were given never fall back, neither before nor after the reply that broke the order, which speaks against an index that was re-created.",
+            &[],
+        ),
+        _ => (),
+    }
+    Ok(())
 }
 
 // Says whether the two writes with one version are of one document.
@@ -104,34 +102,32 @@ fn documents_words(unexplained: &Unexplained<'_>) -> Option<&'static str> {
     let Some(Refuted::PairTwice(one, two)) = unexplained.evidence else {
         return None;
     };
-    let first = call_of(unexplained.history, one)?;
-    let second = call_of(unexplained.history, two)?;
-    if first.id.as_str() == second.id.as_str() {
-        Some(
+    let history = unexplained.history;
+    match (call_of(history, one), call_of(history, two)) {
+        (Some(first), Some(second)) if first.id.as_str() == second.id.as_str() => Some(
             "Both lines name one document: make sure that both are in one index, with one routing if the index uses it.",
-        )
-    } else {
-        Some("The two writes are of different documents: make sure that both are of one shard.")
+        ),
+        (Some(_), Some(_)) => {
+            Some("The two writes are of different documents: make sure that both are of one shard.")
+        }
+        _ => None,
     }
-}
-
-// Whether an index that was re-created makes the same picture.
-fn is_of_numbers(anomaly: Anomaly) -> bool {
-    anomaly == Anomaly::LostUpdate || anomaly.is_of_state()
 }
 
 // Adds what the calls of a document say, if the call that shows the anomaly is one of them.
 fn add_subject(draft: &mut Draft<'_>, records: &[Rec], found: Diagnosis) -> Result<(), NoMemory> {
-    let Some(broken) = records.iter().find(|it| it.no == found.call) else {
+    let Some(broken) = record_of(records, found.call) else {
         return Ok(());
     };
     if found.anomaly.is_of_state() {
-        add_again(draft, records, broken)?;
+        add_again(draft, records, &broken);
+        return add_fall(draft, records, &broken);
     }
-    if is_of_numbers(found.anomaly) {
-        add_fall(draft, records, broken)?;
+    // An index that was re-created makes the same picture.
+    match found.anomaly {
+        Anomaly::LostUpdate => add_fall(draft, records, &broken),
+        _ => Ok(()),
     }
-    Ok(())
 }
 
 /// Adds what in the history speaks for or against what is to be ruled out.
@@ -142,7 +138,7 @@ pub fn add_signs(
     found: Diagnosis,
 ) -> Result<(), NoMemory> {
     if let Some(words) = documents_words(unexplained) {
-        draft.paragraph(words, &[])?;
+        draft.paragraph(words, &[]);
     }
     for subject in subjects {
         add_subject(draft, subject.all(), found)?;

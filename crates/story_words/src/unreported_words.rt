@@ -1,79 +1,77 @@
 use doc_register::Conflicts;
-use events::Rec;
 use ruled_out::Unhelpful;
-use story_blocks::Word::{Asked, Heard, Number, Version};
+use story_blocks::Word::Version;
 use story_blocks::{Draft, unreported_kind};
 use story_reasons::{Reason, Unreported};
-use version_pair::NoMemory;
+use version_pair::Pair;
 
-// Says why the write doesn't help.
-fn add_unhelpful(
-    draft: &mut Draft<'_>,
-    stop: &Rec,
-    unreported: &Unreported,
-) -> Result<(), NoMemory> {
-    match unreported.why {
-        Unhelpful::Late => draft.say(
-            "it was called only after the reply to call {} (line {})",
-            &[Number(stop.no), draft.replied(stop)],
-        ),
-        Unhelpful::Vain => draft.say("no write would help", &[]),
-        Unhelpful::Writes => draft.say("it writes, and a delete is needed", &[]),
-        Unhelpful::Deletes => draft.say("it deletes, and a write of a number is needed", &[]),
-        Unhelpful::OtherNumber => draft.say("it writes another number than was found", &[]),
-        Unhelpful::OtherVersion => match unreported.write.op.condition() {
-            Some(pair) => draft.say("it asks for another version, {}", &[Version(pair)]),
-            None => draft.say("it asks for another version, another place", &[]),
-        },
-        Unhelpful::NoRoom(Some(below), above) => draft.say(
-            "it could only have been performed between {} and {}, and no number is free between them",
-            &[Version(below), Version(above)],
-        ),
-        Unhelpful::NoRoom(None, above) => draft.say(
-            "it could only have been performed before {}, and no version is before it",
-            &[Version(above)],
-        ),
-        Unhelpful::Passed => {
-            draft.say(
-                "it was called only after the document had passed that version",
-                &[],
-            )
+// Returns why the write doesn't help, as a template: 0 is the write, 1 the call that has no position, 2 and 3 the
+// versions between which the write could have been performed.
+fn unhelpful_template(unreported: &Unreported) -> &'static str {
+    match (unreported.why, unreported.write.op.condition()) {
+        (Unhelpful::Late, _) => {
+            "it was called only after the reply to call {1.no} (line {1.replied})"
+        }
+        (Unhelpful::Vain, _) => "no write would help",
+        (Unhelpful::Writes, _) => "it writes, and a delete is needed",
+        (Unhelpful::Deletes, _) => "it deletes, and a write of a number is needed",
+        (Unhelpful::OtherNumber, _) => "it writes another number than was found",
+        (Unhelpful::OtherVersion, Some(_)) => "it asks for another version, {0.condition}",
+        (Unhelpful::OtherVersion, None) => "it asks for another version, another place",
+        (Unhelpful::NoRoom(Some(_), _), _) =>
+            "it could only have been performed between {2} and {3}, and no number is free between them",
+        (Unhelpful::NoRoom(None, _), _) => {
+            "it could only have been performed before {3}, and no version is before it"
+        }
+        (Unhelpful::Passed, _) => {
+            "it was called only after the document had passed that version"
         }
     }
 }
 
-/// Returns the writes that were checked and don't help, each with the reason, in words.
-pub fn unhelpful_write_items(
-    draft: &mut Draft<'_>,
-    reason: &Reason,
-) -> Result<Vec<String>, NoMemory> {
-    let mut items = Vec::new(draft.alloc);
-    for unreported in reason.unreported.iter() {
-        let write = &unreported.write;
-        let asked = [
-            draft.called(write),
-            Number(write.no),
-            Asked(write.op),
-            Heard(write.heard),
-        ];
-        draft.say("line {}, call {}: {} -> {}: ", &asked)?;
-        add_unhelpful(draft, &reason.stop, unreported)?;
-        items.push(draft.said())?;
+// Returns the versions between which a write could only have been performed.
+fn room_of(why: Unhelpful) -> (Option<Pair>, Option<Pair>) {
+    match why {
+        Unhelpful::NoRoom(below, above) => (below, Some(above)),
+        _ => (None, None),
     }
-    Ok(items)
 }
 
-/// Adds what the writes without a reply have to do with it; nothing if there are none that could.
-pub fn add_unreported_kind(
-    draft: &mut Draft<'_>,
-    reason: &Reason,
-    conflicts: Conflicts,
-) -> Result<(), NoMemory> {
-    let template = match (reason.wants_write(), reason.unreported_count) {
+// Adds the writes that were checked and don't help, each with the reason.
+fn add_unhelpful_writes(draft: &mut Draft<'_>, reason: &Reason) {
+    for unreported in reason.unreported.iter() {
+        let (below, above) = room_of(unreported.why);
+        let words = [
+            draft.call(&unreported.write),
+            draft.call(&reason.stop),
+            Version(below),
+            Version(above),
+        ];
+        let why = unhelpful_template(unreported);
+        draft.say(
+            &[
+                "line {0.called}, call {0.no}: {0.asked} -> {0.heard}: ",
+                why,
+            ],
+            &words,
+        );
+        draft.end_item();
+    }
+    draft.end_list(reason.unreported_count, "And {} more.");
+}
+
+/// Adds the writes of which no reply says whether they were performed, and why none of them helps; nothing if there
+/// are none that could have to do with it.
+pub fn add_unreported(draft: &mut Draft<'_>, reason: &Reason, conflicts: Conflicts) {
+    let wants_write = reason.wants_write();
+    let template = match (wants_write, reason.unreported_count) {
         (true, 0) => "The document has no write {} that could have done it.",
         (true, _) => "No write {} can have done it:",
-        (false, 0) => return Ok(()),
+        (false, 0) => return,
         (false, _) => "What became of the writes {} plays no part in this.",
     };
-    draft.paragraph(template, &[unreported_kind(conflicts)])
+    draft.paragraph(template, &[unreported_kind(conflicts)]);
+    if wants_write && reason.unreported_count > 0 {
+        add_unhelpful_writes(draft, reason);
+    }
 }

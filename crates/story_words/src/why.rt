@@ -1,13 +1,14 @@
-use crate::evidence_words::evidence_words;
+use crate::evidence_words::{add_evidence, evident_calls};
 use crate::hidden_write::{add_hidden_write, add_other_reading};
 use crate::late_line::add_late_line;
-use crate::reason_parts::{add_reason, add_unreported};
+use crate::reason_parts::add_reason;
 use crate::reported_calls::add_reported_calls;
+use crate::unreported_words::add_unreported;
 use events::Rec;
 use evidence::Refuted;
+use story_blocks::Draft;
 use story_blocks::Word::{Id, Number};
-use story_blocks::{Block, Draft};
-use story_reasons::{EvidenceCalls, OrderSearch, Reason, Subject, Unexplained, call_of};
+use story_reasons::{EvidenceCalls, OrderSearch, Reason, Subject, Unexplained, call_of, record_of};
 use version_pair::NoMemory;
 
 // Says that the evidence is of another document than the reply at which the search failed, if it is.
@@ -15,30 +16,27 @@ fn add_other_document<'h>(
     draft: &mut Draft<'_>,
     unexplained: &Unexplained<'h>,
     subjects: &[Subject<'h>],
-) -> Result<(), NoMemory> {
+) {
     let (Some(subject), Some(evidence)) = (subjects.first(), unexplained.evidence) else {
-        return Ok(());
+        return;
     };
     let calls = EvidenceCalls::of(evidence);
-    if subject
-        .records
-        .iter()
-        .any(|record| calls.contain(record.no))
-    {
-        return Ok(());
+    for record in subject.records.iter() {
+        if calls.contain(record.no) {
+            return;
+        }
     }
-    let Some(other) = call_of(unexplained.history, calls.first) else {
-        return Ok(());
-    };
-    draft.paragraph(
-        "The search failed first at {}, with the reply to call {}. The calls that prove it are of another document, {} on shard {}; both documents are shown.",
-        &[
-            Id(subject.id),
-            Number(unexplained.call),
-            Id(other.id),
-            Number(other.shard as u64),
-        ],
-    )
+    if let Some(other) = call_of(unexplained.history, calls.first) {
+        draft.paragraph(
+            "The search failed first at {}, with the reply to call {}. The calls that prove it are of another document, {} on shard {}; both documents are shown.",
+            &[
+                Id(subject.id),
+                Number(unexplained.call),
+                Id(other.id),
+                Number(other.shard as u64),
+            ],
+        );
+    }
 }
 
 // Adds why no order explains the document, if it is ruled out.
@@ -47,81 +45,74 @@ fn add_subject(
     unexplained: &Unexplained<'_>,
     subject: &Subject<'_>,
     several: bool,
-) -> Result<(), NoMemory> {
+) {
     let Some(reason) = &subject.reason else {
-        return Ok(());
+        return;
     };
-    let conflicts = unexplained.conflicts;
     if !reason.is_reported {
         if several {
-            draft.paragraph("Of the document {}:", &[Id(subject.id)])?;
+            draft.paragraph("Of the document {}:", &[Id(subject.id)]);
         }
-        return add_reason(draft, reason, conflicts);
+        add_reason(draft, reason, unexplained.conflicts);
+    } else if reason.wants_write() {
+        add_unreported(draft, reason, unexplained.conflicts);
     }
-    if reason.wants_write() {
-        return add_unreported(draft, reason, conflicts);
-    }
-    Ok(())
 }
 
 // Returns the get that the evidence says nobody can have written for, if it is one of these calls.
 fn get_without_writer(evidence: Option<Refuted>, records: &[Rec]) -> Option<Rec> {
     match evidence {
-        Some(Refuted::NoWriter(no)) => records.iter().find(|record| record.no == no).copied(),
+        Some(Refuted::NoWriter(no)) => record_of(records, no),
         _ => None,
     }
 }
 
-// Asks whether a conflict hid a write, if it seems so: of the call that shows what nobody can have written, if the
-// evidence, that of the first line or the reason is about one. Returns whether it does.
-fn add_hidden(
-    draft: &mut Draft<'_>,
-    unexplained: &Unexplained<'_>,
-    subject: &Subject<'_>,
-) -> Result<bool, NoMemory> {
+// Returns the call that shows what nobody can have written, if that of the first line, the evidence or the reason is
+// about one.
+fn unwritten_call(unexplained: &Unexplained<'_>, subject: &Subject<'_>) -> Option<Rec> {
     let reported = get_without_writer(unexplained.reported, subject.all());
     let evident = get_without_writer(unexplained.evidence, &subject.records);
-    let reason = subject
-        .reason
-        .as_ref()
-        .and_then(|reason| reason.unwritten());
-    match reported.or(evident).or(reason) {
+    match (reported, evident, &subject.reason) {
+        (Some(get), _, _) | (None, Some(get), _) => Some(get),
+        (None, None, Some(reason)) => reason.unwritten(),
+        (None, None, None) => None,
+    }
+}
+
+// Asks whether a conflict hid a write, if it seems so: of the call that shows what nobody can have written. Returns
+// whether it does.
+fn add_hidden(draft: &mut Draft<'_>, unexplained: &Unexplained<'_>, subject: &Subject<'_>) -> bool {
+    match unwritten_call(unexplained, subject) {
         Some(get) => add_hidden_write(draft, &get, subject.all(), unexplained.conflicts),
-        None => Ok(false),
+        None => false,
     }
 }
 
 // Asks whether a line was written late, if it seems so by one of the calls whose replies show the versions that the
-// reason mentions. Returns whether it does.
-fn add_late_of(draft: &mut Draft<'_>, reason: &Reason, records: &[Rec]) -> Result<bool, NoMemory> {
+// reason mentions.
+fn add_late_of(draft: &mut Draft<'_>, reason: &Reason, records: &[Rec]) {
     if let Some(shower) = &reason.shower {
-        if add_late_line(draft, shower, records)? {
-            return Ok(true);
+        if add_late_line(draft, shower, records) {
+            return;
         }
     }
     for link in reason.links.iter() {
-        if add_late_line(draft, &link.record, records)? {
-            return Ok(true);
+        if add_late_line(draft, &link.record, records) {
+            return;
         }
     }
-    Ok(false)
 }
 
 // Asks whether a line was written late, if it seems so.
-fn add_late(
-    draft: &mut Draft<'_>,
-    unexplained: &Unexplained<'_>,
-    subject: &Subject<'_>,
-) -> Result<(), NoMemory> {
+fn add_late(draft: &mut Draft<'_>, unexplained: &Unexplained<'_>, subject: &Subject<'_>) {
     if let Some(get) = get_without_writer(unexplained.evidence, &subject.records) {
-        if add_late_line(draft, &get, subject.all())? {
-            return Ok(());
+        if add_late_line(draft, &get, subject.all()) {
+            return;
         }
     }
     if let Some(reason) = &subject.reason {
-        add_late_of(draft, reason, subject.all())?;
+        add_late_of(draft, reason, subject.all());
     }
-    Ok(())
 }
 
 // Adds the reasons of each document, and what may make them look wrong. The history is checked with conflicts read
@@ -134,14 +125,24 @@ fn add_subjects<'h, S: OrderSearch>(
 ) -> Result<(), NoMemory> {
     let mut is_checked = false;
     for subject in subjects {
-        add_late(draft, unexplained, subject)?;
-        if add_hidden(draft, unexplained, subject)? && !is_checked {
+        add_late(draft, unexplained, subject);
+        if add_hidden(draft, unexplained, subject) && !is_checked {
             is_checked = true;
             add_other_reading(draft, unexplained.whole, search)?;
         }
-        add_subject(draft, unexplained, subject, subjects.len() > 1)?;
+        add_subject(draft, unexplained, subject, subjects.len() > 1);
     }
     Ok(())
+}
+
+// Whether there is a reason for one of the documents.
+fn have_reasons(subjects: &[Subject<'_>]) -> bool {
+    for subject in subjects {
+        if subject.reason.is_some() {
+            return true;
+        }
+    }
+    false
 }
 
 /// Adds why no order can have the replies, if it is known: by evidence, and for each document that is ruled
@@ -152,15 +153,16 @@ pub fn add_why<'h, S: OrderSearch>(
     subjects: &[Subject<'h>],
     search: &S,
 ) -> Result<(), NoMemory> {
-    let reported = evidence_words(draft, unexplained)?;
-    if reported.is_none() && !subjects.iter().any(|subject| subject.reason.is_some()) {
+    let evident = evident_calls(unexplained);
+    if evident.is_none() && !have_reasons(subjects) {
         return Ok(());
     }
-    draft.heading("Why no order can have these replies")?;
-    add_other_document(draft, unexplained, subjects)?;
-    if let Some(words) = reported {
-        draft.add(Block::Paragraph(words))?;
+    draft.heading("Why no order can have these replies");
+    add_other_document(draft, unexplained, subjects);
+    if let Some(evident) = &evident {
+        add_evidence(draft, evident, unexplained.conflicts);
     }
     add_subjects(draft, unexplained, subjects, search)?;
-    add_reported_calls(draft, unexplained)
+    add_reported_calls(draft, unexplained);
+    Ok(())
 }

@@ -8,7 +8,7 @@ use Rattle.places.specs.Faults.{IsFirstFault}
 use Rattle.places.specs.Places.{AreValid}
 use Rattle.places.specs.declared.broken.Broken.{Broken}
 use Rattle.places.specs.Witness.{Witness}
-use Rattle.compose.specs.Covers.{AreValidEntries, IsEntered, IsKnown, IsOfShard}
+use Rattle.covers.specs.Covers.{AreValidEntries, IsEntered, IsKnown, IsOfShard}
 use Rattle.compose.specs.declared.verify_fault.VerifyFault.{VerifyFault}
 use Rattle.compose.specs.declared.verify_fault.VerifyFault.TheVariants as fault
 

@@ -56,16 +56,16 @@ complete -c casbench -n '__casbench_lacks check value --conflicts' -l conflicts 
 complete -c casbench -n '__casbench_lacks check value --workers' -l workers -x -d 'How many workers search the documents, 1 to 16; 1 by default'
 complete -c casbench -n '__casbench_lacks check flag --rule-out' -l rule-out -d 'If no order is found, look for a document that no order explains, whatever became of lost calls'
 complete -c casbench -n '__casbench_lacks check value --at-least' -l at-least -x -d 'How many calls a history has to have: a yes with fewer gets status 6; 0 by default'
-complete -c casbench -n '__casbench_lacks check flag --json' -l json -d 'Write an object of JSON in place of each line'
+complete -c casbench -n '__casbench_lacks check flag --json' -l json -d 'Write answers as objects of JSON'
 complete -c casbench -n '__casbench_lacks check flag -h --help' -s h -l help -d 'Print help'
 complete -c casbench -n '__casbench_wants check 999 --conflicts --workers --at-least' -F
 complete -c casbench -n '__casbench_lacks witness value --conflicts' -l conflicts -x -a 'plain maybe' -d 'How a conflict is read: plain (not performed) or maybe (possibly performed); plain by default'
 complete -c casbench -n '__casbench_lacks witness flag --rule-out' -l rule-out -d 'If no order is found, look for a document that no order explains, whatever became of lost calls'
-complete -c casbench -n '__casbench_lacks witness flag --json' -l json -d 'Write an object of JSON in place of each line'
+complete -c casbench -n '__casbench_lacks witness flag --json' -l json -d 'Write answers as objects of JSON'
 complete -c casbench -n '__casbench_lacks witness flag -h --help' -s h -l help -d 'Print help'
 complete -c casbench -n '__casbench_wants witness 1 --conflicts' -F
 complete -c casbench -n '__casbench_lacks verify value --conflicts' -l conflicts -x -a 'plain maybe' -d 'How a conflict is read: plain (not performed) or maybe (possibly performed); plain by default'
-complete -c casbench -n '__casbench_lacks verify flag --json' -l json -d 'Write an object of JSON in place of each line'
+complete -c casbench -n '__casbench_lacks verify flag --json' -l json -d 'Write answers as objects of JSON'
 complete -c casbench -n '__casbench_lacks verify flag -h --help' -s h -l help -d 'Print help'
 complete -c casbench -n '__casbench_wants verify 2 --conflicts' -F
 complete -c casbench -n '__casbench_lacks bulk value --first' -l first -x -d 'The number of the first call; 0 by default'
@@ -88,6 +88,7 @@ complete -c casbench -n '__casbench_lacks explain flag --rule-out' -l rule-out -
 complete -c casbench -n '__casbench_lacks explain value --html' -l html -r -F -d 'Write the explanation to this file too, as a page of HTML'
 complete -c casbench -n '__casbench_lacks explain value --document' -l document -x -d 'Draw the calls of the document with this id on the page'
 complete -c casbench -n '__casbench_lacks explain value --lines' -l lines -x -d 'Draw no calls but those on the lines from A to B of the text'
+complete -c casbench -n '__casbench_lacks explain flag --json' -l json -d 'Write answers as objects of JSON'
 complete -c casbench -n '__casbench_lacks explain flag -h --help' -s h -l help -d 'Print help'
 complete -c casbench -n '__casbench_wants explain 1 --conflicts --workers --html --document --lines' -F
 complete -c casbench -n '__casbench_wants help 1' -a 'check witness verify bulk run explain help'

@@ -1,7 +1,23 @@
-use Rattle.casbench.proofs.EachLemmas.{answers_one}
+use Rattle.std.proofs.Common.{refl, subst}
+use Rattle.std.specs.Prelude.{IfOk}
+use Rattle.doc_register.specs.declared.state.Conflicts.{Conflicts}
+use Rattle.evidence.specs.declared.ruling_out.RulingOut.{RulingOut}
+use Rattle.casbench.proofs.EachLemmas.{has_come}
 use Rattle.casbench.proofs.check_each.check_named.Goals as goal
+use Rattle.casbench.specs.aids.Checking.{IsWrittenOf}
 
-pub returns-clause-answered : goal.returns-clause-answered
-returns-clause-answered g c =
-    answers_one c.args.options.ruling_out c.args.options.conflicts c.args.at_least c.args.form c.args.text.name.now (g.S.Read.remaining c.args.text.source)
-    c.in_ok-written.written c.outcome_of-outcome.result c.in_ok-written.ensures.answered c.outcome_of-outcome.ensures.status c.outcome_of-outcome.ensures.judged
+pub returns : goal.returns
+returns g c =
+    let options = c.args.options in
+    let own = c.shared_out-own.result in
+    let written = c.check_in_form-written.result in
+    let name = c.args.text.now.name.now in
+    let input = g.S.Read.remaining c.args.text.now.source in
+    let answered =
+    subst (λ (r : RulingOut). IfOk written (IsWrittenOf r options.conflicts c.args.form name input)) c.shared_out-own.ensures.ruling_out
+    (subst (λ (r : Conflicts). IfOk written (IsWrittenOf own.ruling_out r c.args.form name input)) c.shared_out-own.ensures.conflicts c.check_in_form-written.ensures.answered) in
+    record {
+      name = refl;
+      come = has_come options.ruling_out options.conflicts c.args.form options.workers name input written answered c.check_in_form-written.ensures.reported
+          (λ one. c.check_in_form-written.ensures.alone (c.shared_out-own.ensures.alone one));
+    }

@@ -11,6 +11,14 @@ returns c =
       witness = None;
       proved = details.proved;
       broken_reply = details.broken_reply;
+      explanation = c.args.explanation;
       milliseconds = c.args.milliseconds;
     } in
-    IfOk-weaker c.object_line.result _ _ (λ text is. (details.reported, facts, refl, refl, is)) c.object_line.ensures
+    IfOk-weaker c.object_line.result _ _ (λ text is. λ conflicts input proved. record {
+      reported = details.reported;
+      facts = facts;
+      says = refl;
+      named = refl;
+      proved = proved;
+      written = is;
+    }) c.object_line.ensures

@@ -10,6 +10,14 @@ returns c =
       witness = Some c.args.witness;
       proved = c.proved_of.result;
       broken_reply = None;
+      explanation = None;
       milliseconds = c.args.milliseconds;
     } in
-    IfOk-weaker c.object_line.result _ _ (λ text is. (c.args.reported.now, facts, refl, refl, is)) c.object_line.ensures
+    IfOk-weaker c.object_line.result _ _ (λ text is. λ conflicts input. record {
+      reported = c.args.reported.now;
+      facts = facts;
+      says = refl;
+      named = refl;
+      proved = c.proved_of.ensures conflicts input;
+      written = is;
+    }) c.object_line.ensures

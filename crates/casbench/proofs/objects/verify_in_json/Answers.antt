@@ -10,7 +10,7 @@ returns-clause-answered g c =
     wrote c.write_answer.result (VerifiesInJson c.args.name.now c.args.conflicts history witness) (g.W.Write.contents c.args.writer.now)
     (g.W.Write.contents c.write_answer.new.writer) c.status_of-status.result c.in_ok-text.text.items c.write_answer.ensures
     (verified_in_json c.args.name.now c.args.conflicts history witness c.in_ok-reported.reported c.status_of-status.result c.in_ok-text.text.items c.status_of-status.ensures
-    c.in_ok-reported.ensures.answer c.in_ok-text.ensures)
+    c.in_ok-reported.ensures.answer (λ h. c.in_ok-text.ensures c.args.conflicts h))
 
 pub returns-clause-cut_off : goal.returns-clause-cut_off
 returns-clause-cut_off g c =
@@ -19,4 +19,4 @@ returns-clause-cut_off g c =
     wrote_front c.write_answer.result (VerifiesInJson c.args.name.now c.args.conflicts history witness) (g.W.Write.contents c.args.writer.now)
     (g.W.Write.contents c.write_answer.new.writer) c.status_of-status.result c.in_ok-text.text.items c.write_answer.ensures
     (verified_in_json c.args.name.now c.args.conflicts history witness c.in_ok-reported.reported c.status_of-status.result c.in_ok-text.text.items c.status_of-status.ensures
-    c.in_ok-reported.ensures.answer c.in_ok-text.ensures)
+    c.in_ok-reported.ensures.answer (λ h. c.in_ok-text.ensures c.args.conflicts h))

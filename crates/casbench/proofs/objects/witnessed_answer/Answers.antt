@@ -1,4 +1,4 @@
-use Rattle.std.proofs.Common.{subst, sym}
+use Rattle.std.proofs.Common.{Some, subst, sym}
 use Rattle.report.specs.Details.{status_of}
 use Rattle.report.specs.Witnessed.{IsWitnessedBy}
 use Rattle.result_lines.specs.Objects.{line_of}
@@ -13,4 +13,5 @@ returns-in_ok-text-in-Answered c = λ ruling conflicts input is.
     let text = c.in_ok-text-in-Answered.text.items in
     let both = subst (IsWitnessedBy ruling conflicts input) c.in-Answered.is is in
     subst (λ (s : Status). IsWitnessInJson c.args.name.now ruling conflicts input s text) (sym c.status_of-status.ensures)
-    (answered_in_json c.args.name.now ruling conflicts input (status_of reported) (line_of reported) text both.0 both.1 c.in_ok-text-in-Answered.ensures)
+    (answered_in_json c.args.name.now ruling conflicts input (status_of reported) (line_of reported) text both.0 both.1
+    (c.in_ok-text-in-Answered.ensures conflicts (Some input) both.2))

@@ -1,5 +1,5 @@
 use Rattle.std.proofs.Common.{subst}
-use Rattle.compose.specs.aids.Joined.{IsSearchOutcome}
+use Rattle.compose.specs.aids.Searched.{IsSearchOutcome}
 use Rattle.compose.proofs.checking.is_explained.Goals as goal
 
 pub returns-in-Found-clause-found : goal.returns-in-Found-clause-found

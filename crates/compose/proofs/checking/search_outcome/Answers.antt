@@ -1,5 +1,5 @@
 use Rattle.std.proofs.Common.{refl, subst, true}
-use Rattle.compose.specs.aids.Joined.{IsCovered}
+use Rattle.covers.specs.Answered.{IsCovered}
 use Rattle.compose.proofs.VerdictLemmas.{uncovered_has_none, witnesses_explain}
 use Rattle.compose.proofs.checking.search_outcome.Goals as goal
 

@@ -1,9 +1,9 @@
 use Rattle.std.proofs.Common.{ap, length, refl, subst, sym, true}
 use Rattle.events.specs.Events.{documents_of}
-use Rattle.compose.specs.Covers.{HasNoUnpairedCover}
-use Rattle.compose.specs.Verdicts.{AreWitnesses, Proven}
-use Rattle.compose.specs.aids.Joined.{IsCovered}
-use Rattle.compose.specs.aids.Searched.{AreAnswersFor, AreUnordered}
+use Rattle.covers.specs.Covers.{AreWitnesses, HasNoUnpairedCover}
+use Rattle.compose.specs.Verdicts.{Proven}
+use Rattle.covers.specs.Answered.{AreAnswersFor, IsCovered}
+use Rattle.compose.specs.aids.Searched.{AreUnordered}
 use Rattle.compose.proofs.UnorderedLemmas.{are_documents, lists_ruled_out}
 use Rattle.compose.proofs.VerdictLemmas.{uncovered_has_none, witnesses_explain}
 use Rattle.compose.proofs.checking.verdict_of.Goals as goal

@@ -1,7 +1,7 @@
 use Rattle.std.proofs.Common.{arith, true, ◌<◌, length, subst, sym, take, ◌≤◌}
 use Rattle.std.proofs.lemmas.List.{take_all}
 use Rattle.events.specs.Events.{documents_of}
-use Rattle.compose.specs.aids.Searched.{AreAnswersFor}
+use Rattle.covers.specs.Answered.{AreAnswersFor}
 use Rattle.compose.proofs.FoundLemmas.{answered_one_more}
 use Rattle.compose.proofs.found.answers_found.Goals as goal
 

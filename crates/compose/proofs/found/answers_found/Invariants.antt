@@ -1,6 +1,6 @@
 use Rattle.std.proofs.Common.{take, true}
 use Rattle.events.specs.Events.{documents_of}
-use Rattle.compose.specs.aids.Searched.{AreAnswersFor}
+use Rattle.covers.specs.Answered.{AreAnswersFor}
 use Rattle.compose.proofs.found.answers_found.Given as goal
 
 abbrev pub invariant-loop-doc : goal.invariant-loop-doc

@@ -1,7 +1,7 @@
 use Rattle.std.proofs.Common.{subst}
 use Rattle.std.proofs.lemmas.Result.{IfOk-weaker}
-use Rattle.compose.specs.aids.Joined.{IsSearchOutcome}
-use Rattle.compose.proofs.CoveringLemmas.{outcome_wrong}
+use Rattle.compose.specs.aids.Searched.{IsSearchOutcome}
+use Rattle.compose.proofs.OffenceLemmas.{outcome_wrong}
 use Rattle.compose.proofs.offence.search_outcome_to.Goals as goal
 
 pub returns : goal.returns

@@ -1,5 +1,5 @@
 use Rattle.std.proofs.Common.{Some, None, subst}
-use Rattle.compose.specs.aids.Taken.{IsLeastTwice, pairs_taken}
+use Rattle.shard_numbers.specs.Taken.{IsLeastTwice, pairs_taken}
 use Rattle.compose.proofs.VerifyLemmas.{verified_covers, verified_missing, verified_twice}
 use Rattle.compose.proofs.verification.covering.Goals as goal
 

@@ -5,7 +5,7 @@ use Rattle.places.specs.Documents.{doc_places}
 use Rattle.compose.specs.VerifyFaults.{IsFirstVerifyFault}
 use Rattle.compose.specs.aids.Verified.{AreVerified}
 use Rattle.compose.proofs.VerifyLemmas.{first_of_entry}
-use Rattle.compose.proofs.Yielded.{all_given, next_given}
+use Rattle.covers.proofs.Yielded.{all_given, next_given}
 use Rattle.compose.proofs.verification.witnesses_of.Goals as goal
 
 pub loop-places-init : goal.loop-places-init

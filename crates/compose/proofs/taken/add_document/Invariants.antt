@@ -1,6 +1,0 @@
-use Rattle.std.proofs.Common.{◌≡◌, ◌++◌, take}
-use Rattle.compose.specs.aids.Taken.{pairs_at}
-use Rattle.compose.proofs.taken.add_document.Given as goal
-
-abbrev pub invariant-loop-i : goal.invariant-loop-i
-invariant-loop-i l = l.pairs.items ≡ l.fn.pairs.items ++ pairs_at l.shard l.records (take l.i l.places)

@@ -1,0 +1,7 @@
+pub mod ListedDocuments
+mod FlatPlaces
+pub mod TakenPlaces
+mod SearchedLemmas
+mod FoundLemmas
+mod CoveringLemmas
+pub mod Yielded

@@ -1,0 +1,129 @@
+ghost use Rattle.std.specs.Prelude.{◌≡◌, IfErr, IfOk, IfSome, ℕ, List};
+ghost use Rattle.history.specs.Text.{IsHistoryText};
+ghost use Rattle.page.specs.Pages.{IsPage};
+ghost use Rattle.result_lines.specs.Objects.{line_of};
+ghost use Rattle.stream_io.specs.Faults.{IsCheckFault, IsReadingFault};
+ghost use Rattle.stream_io.specs.Taken.{TakesHistory};
+ghost use Rattle.report.specs.Details.{IsProvedOf, status_of};
+ghost use Rattle.report.specs.Verdict.{AnswersInput, IsAnswer};
+ghost use Rattle.report.specs.Workers.{AreWorkers, HasDocument, NamesOwnDocument};
+
+use crate::check_options::CheckOptions;
+use crate::details::{Details, history_details};
+use crate::explain::story_of;
+use crate::numbered_input::read_numbered;
+use crate::shown_page::{PageOptions, page_shown, view_of};
+use events::{HashKeys, History};
+use std::alloc::Global;
+use std::io::Read;
+use std::sync::Wait;
+use std::thread::Threads;
+use story::{EventLines, Kept, Story, View, plain_text, refused_story};
+use stream_io::StreamFault;
+
+/// What a check finds in a text, piece by piece, and what explains it.
+#[derive(Drop)]
+pub struct ExplainedDetails {
+    /// What it finds.
+    pub details: Details,
+    /// What explains it, as `explain_stream` writes it after the line.
+    pub explanation: String,
+    /// The same as a page of HTML, if one is asked for.
+    pub page: Option<Vec<u8>>,
+}
+
+// Returns the details of a history, and its explanation.
+fn explained_history<T: Threads + Wait + Sync>(
+    rt: &T,
+    alloc: Global,
+    history: History,
+    lines: &EventLines,
+    options: CheckOptions,
+    view: Option<&View<'_>>,
+) -> Result<(Details, Story), StreamFault>
+    requires workers { AreWorkers options.workers }
+    ensures answer { IfOk result (λ made. (input : List ℕ) → IsHistoryText input history
+        → IsAnswer options.ruling_out options.conflicts input (status_of made.0.reported) (line_of made.0.reported)) }
+    ensures proved { IfOk result (λ made. (input : List ℕ) → IsHistoryText input history
+        → IsProvedOf options.conflicts input made.0.reported made.0.proved) }
+    ensures reported { IfErr result IsCheckFault }
+    ensures alone { options.workers ≡ 1 → IfErr result (λ fault. fault ≡ StreamFault.NoMemory) }
+    ensures named { IfErr result (HasDocument history) }
+{
+    let (details, finding) = history_details(rt, alloc, history, lines, options)?;
+    let story = story_of(alloc, &finding, lines, view, options.ruling_out)?;
+    Ok((details, story))
+}
+
+// Returns the details of the text of a reader, and its explanation.
+fn explain<T: Threads + Wait + Sync, R: Read>(
+    rt: &T,
+    alloc: Global,
+    keys: HashKeys,
+    reader: &mut R,
+    options: CheckOptions,
+    view: Option<&View<'_>>,
+) -> Result<(Details, Story), StreamFault>
+    requires workers { AreWorkers options.workers }
+    ensures answer { IfOk result (λ made. AnswersInput options.ruling_out options.conflicts (R.remaining reader.old)
+        (status_of made.0.reported) (line_of made.0.reported)) }
+    ensures proved { IfOk result (λ made. IfSome (R.remaining reader.old)
+        (λ input. IsProvedOf options.conflicts input made.0.reported made.0.proved)) }
+    ensures reported { IfErr result IsCheckFault }
+    ensures alone { options.workers ≡ 1 → IfErr result IsReadingFault }
+    ensures named { IfErr result (NamesOwnDocument (R.remaining reader.old)) }
+    ensures taken { TakesHistory (R.remaining reader.old) (R.remaining reader.new) }
+{
+    match read_numbered(alloc, keys, reader, Kept::All) {
+        Ok(Ok((history, lines))) => { explained_history(rt, alloc, history, &lines, options, view) }
+        Ok(Err(refused)) => {
+            let story = refused_story(alloc, &refused)?;
+            Ok((Details::refused(refused.fault), story))
+        }
+        Err(fault) => Err(StreamFault::from(fault)),
+    }
+}
+
+/// Returns what a check finds in the text of a reader, as `check_details` does, with its explanation, as text, and as
+/// a page if one is asked for. It writes nothing.
+///
+/// Errors, whichever comes first: `Read`, `NoMemory`, `Worker`. It waits as `check_stream` does.
+pub fn explained_details<T: Threads + Wait + Sync, R: Read>(
+    rt: &T,
+    alloc: Global,
+    keys: HashKeys,
+    reader: &mut R,
+    options: CheckOptions,
+    shown: Option<PageOptions<'_>>,
+) -> Result<ExplainedDetails, StreamFault>
+    // There are 1 to 16 workers.
+    requires workers { AreWorkers options.workers }
+    // The line that reports it answers the bytes of the reader, as that of `check_stream` does.
+    ensures answer { IfOk result (λ found. AnswersInput options.ruling_out options.conflicts (R.remaining reader.old)
+        (status_of found.details.reported) (line_of found.details.reported)) }
+    // If it is said to be proved that no order explains the history, none does.
+    ensures proved { IfOk result (λ found. IfSome (R.remaining reader.old)
+        (λ input. IsProvedOf options.conflicts input found.details.reported found.details.proved)) }
+    // The page is made of markup of the crate `page`, numbers, and escaped texts.
+    ensures page { IfOk result (λ found. IfSome found.page (λ page. IsPage page.items)) }
+    // The only errors are `Read`, `NoMemory` and `Worker`.
+    ensures reported { IfErr result IsCheckFault }
+    // With one worker, the caller's thread, the error is never `Worker`.
+    ensures alone { options.workers ≡ 1 → IfErr result IsReadingFault }
+    // A document that a `Worker` names is one of the history whose text the reader had.
+    ensures named { IfErr result (NamesOwnDocument (R.remaining reader.old)) }
+    // No bytes after the first refused line are taken but those that the last read returned, as by
+    // `check_stream`.
+    ensures taken { TakesHistory (R.remaining reader.old) (R.remaining reader.new) }
+{
+    let view = view_of(&shown);
+    let (details, story) = explain(rt, alloc, keys, reader, options, view)?;
+    let explanation = plain_text(alloc, &story)?;
+    let line = details.reported.line(alloc)?;
+    let page = page_shown(alloc, line.as_str(), &story, options, shown)?;
+    Ok(ExplainedDetails {
+        details,
+        explanation,
+        page,
+    })
+}

@@ -1,0 +1,3 @@
+mod TakenLemmas
+mod TwiceMoved
+mod TwiceSorted
