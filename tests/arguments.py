@@ -7,12 +7,14 @@ PROGRAM is the built casbench; if it isn't named, the one that ./casbench would 
 that has the files below; if a row names no standard input, that is empty.
 """
 
+import contextlib
 import errno
 import fcntl
 import gzip
 import os
 import pathlib
 import re
+import select
 import shlex
 import struct
 import subprocess
@@ -59,6 +61,7 @@ def absent(name, fault):
 
 DIRECTORY = f"casbench: broken: is a directory\n{READ_FAULT}"
 TWO_INPUTS = f"casbench: standard input is named twice\n{READ_FAULT}"
+PROGRESS = re.compile(rb"\A(\r\x1b\[Kcasbench: (reading|searching for an order|looking for the broken reply) \(\d+ s\))+\r\x1b\[K\Z")
 TERMINAL = "casbench: reads from the terminal until Ctrl-D on a line of its own; for help: casbench --help\n"
 PACKED = "casbench: packed.gz is compressed; try: zcat packed.gz | casbench check\n"
 
@@ -470,6 +473,50 @@ class Arguments(ProgramTest):
             self.assertEqual(child.communicate(timeout=SECONDS), (NOTHING, no_calls()))
             self.assertEqual(child.returncode, 0)
         os.close(leader)
+
+    def check_progress(self, command):
+        """Gives the first line of a text, and the rest once something is said; returns what is said and what is written."""
+        leader, follower = os.openpty()
+        how = {"stdin": subprocess.PIPE, "stdout": subprocess.PIPE, "stderr": follower}
+        first, *rest = case_text("index-then-get").encode().splitlines(True)
+        with subprocess.Popen([self.program, *command.split()], **how) as child:
+            os.close(follower)
+            child.stdin.write(first)
+            child.stdin.flush()
+            self.assertTrue(select.select([leader], [], [], SECONDS)[0], "nothing is said")
+            shown = os.read(leader, 4096)
+            out, _ = child.communicate(b"".join(rest), timeout=SECONDS)
+        with contextlib.suppress(OSError):  # (the terminal is gone at its end)
+            while more := os.read(leader, 4096):
+                shown += more
+        os.close(leader)
+        self.assertEqual(child.returncode, 0)
+        answer = '{"answer":"yes"' if "--json" in command else ANSWER
+        self.assertEqual(out[: len(answer)].decode(), answer)
+        self.assertRegex(shown, PROGRESS)
+
+    def test_progress(self):
+        """At a terminal a command that takes two seconds says what it is doing, and clears the line before it answers."""
+        rows = ["check", "check --json", "explain", "explain --json"]
+        self.run_subtests(self.check_progress, [(it, it) for it in rows])
+
+    def test_progress_ends(self):
+        """The line is cleared before a page that can't be written is reported."""
+        leader, follower = os.openpty()
+        how = {"stdin": subprocess.PIPE, "stdout": subprocess.DEVNULL, "stderr": follower}
+        with subprocess.Popen([self.program, "explain", "--html", "/absent/page"], **how) as child:
+            os.close(follower)
+            self.assertTrue(select.select([leader], [], [], SECONDS)[0], "nothing is said")
+            shown = os.read(leader, 4096)
+            child.communicate(timeout=SECONDS)
+        with contextlib.suppress(OSError):
+            while more := os.read(leader, 4096):
+                shown += more
+        os.close(leader)
+        self.assertEqual(child.returncode, 4)
+        said = absent("/absent/page", WRITE_FAULT).replace("\n", "\r\n").encode()
+        self.assertEqual(shown[-len(said) :], said)
+        self.assertRegex(shown[: -len(said)], PROGRESS)
 
     def check_help(self, folder, arguments, example):
         status, out, why = self.ran(arguments, folder)

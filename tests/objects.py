@@ -9,16 +9,18 @@ of the line of the same case of tests/cases; what an object says beside its line
 
 import datetime
 import json
+import os
 import pathlib
 import re
 import subprocess
 import sys
 import tempfile
+import threading
 import time
 
 from case_files import FILES, all_cases, case_text
 from program_test import ProgramTest, run_tests
-from running import run
+from running import SECONDS, run
 from texts import OFFENCE, conflict, created, get, index, lost, missing, no_calls, status_of, too_few
 
 # The commands that answer in objects if they are asked for, and the first words of the lines that are answers of one.
@@ -168,9 +170,25 @@ class Objects(ProgramTest):
         """Blank lines count, the document's id is escaped, and the time is that of the reply's line."""
         status, line, _ = self.run_in(["check", "h"], {"h": TIMED})
         self.assertEqual((status, line.split()[0]), (status_of(line), "no"))
-        status, out, why = self.run_in(["check", "h", "--json"], {"h": TIMED})
-        self.assertEqual((status, why), (status_of(line), ""))
-        self.check_object(out, line, TIMED, {"file": "h"})
+        for command in ("check", "witness"):
+            for name, given in (("h", ""), ("-", TIMED)):
+                with self.subTest(f"{command} {name}"):
+                    status, out, why = self.run_in([command, name, "--json"], {"h": TIMED}, given)
+                    self.assertEqual((status, why), (status_of(line), ""))
+                    self.check_object(out, line, TIMED, {"file": name})
+
+    def test_place_in_a_pipe(self):
+        """What can be read only once is not opened again for a time."""
+        _, line, _ = self.run_in(["check", "h"], {"h": TIMED})
+        words = [self.program, "check", "pipe", "--json"]
+        with tempfile.TemporaryDirectory() as folder:
+            pipe = pathlib.Path(folder) / "pipe"
+            os.mkfifo(pipe)
+            with subprocess.Popen(words, cwd=folder, stdout=subprocess.PIPE, text=True) as child:
+                # (on a thread, since it waits until the program opens the pipe)
+                threading.Thread(target=pipe.write_text, args=(TIMED,), daemon=True).start()
+                out, _ = child.communicate(timeout=SECONDS)
+        self.check_object(out, line, TIMED, {"file": "pipe"})
 
     def test_several_files(self):
         """Each file has an object, in the order of the arguments, whose status is as without, however many workers there are."""

@@ -7,7 +7,22 @@ from typing import NamedTuple
 CRATES = Path(__file__).resolve().parent.parent.parent / "crates"
 
 # The modules of the program whose functions are shown. A program has no callers, so these are its own parts.
-PROGRAM_PARTS = ("check", "check_each", "checked", "exit", "files", "notes", "outcome", "output", "page_file", "run")
+PROGRAM_PARTS = (
+    "bulk",
+    "check",
+    "check_each",
+    "exit",
+    "explain",
+    "files",
+    "notes",
+    "objects",
+    "outcome",
+    "output",
+    "page_file",
+    "run",
+    "verify",
+    "witness",
+)
 
 # The beginnings of a function, a clause and a ghost item.
 FUNCTION = r"\s*(pub )?(?:const |unsafe )*fn (\w+)"

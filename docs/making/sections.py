@@ -204,6 +204,7 @@ SECTIONS = (
             "casbench/specs/Outcomes.antt",
             "casbench/specs/Each.antt",
             "casbench/specs/Objects.antt",
+            "casbench/specs/Requests.antt",
             "casbench/specs/Exit.antt",
             "casbench/specs/Faults.antt",
         ),

@@ -103,7 +103,8 @@ class Nodes:
     def kill(self, name: str) -> None:
         """Kills a process, a stopped one too."""
         process = self.processes.pop(name)
-        os.kill(process.pid, signal.SIGKILL)
+        # (one that has ended is left alone)
+        process.kill()
         process.wait()
         if name in self.holds:
             self.go_on(name)

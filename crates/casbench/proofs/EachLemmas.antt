@@ -17,7 +17,7 @@ use Rattle.std.proofs.lemmas.List.Elements.{All-cons, All-head, All-nil, All-pus
 use Rattle.casbench.specs.Each.{AnswersEach, AnswersOne, AreOfFiles, CheckedText, Named, greatest_from, named_of}
 use Rattle.casbench.specs.Exit.{greater_outcome}
 use Rattle.casbench.specs.Input.{names_input}
-use Rattle.casbench.specs.declared.form.Form.{Form}
+use Rattle.command_line.specs.declared.form.Form.{Form}
 use Rattle.casbench.specs.declared.named_text.NamedText.{NamedText}
 use Rattle.casbench.specs.declared.outcome.Outcome.{Outcome}
 use Rattle.casbench.specs.declared.outcome.Outcome.TheVariants.{Answered}

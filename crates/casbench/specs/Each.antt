@@ -6,8 +6,8 @@ use Rattle.casbench.specs.Exit.{greater_outcome}
 use Rattle.casbench.specs.Input.{names_input}
 use Rattle.casbench.specs.Objects.{IsObjectOn}
 use Rattle.casbench.specs.Outcomes.{IsJudged, status_of}
-use Rattle.casbench.specs.declared.form.Form.{Form}
-use Rattle.casbench.specs.declared.form.Form.TheVariants.{Lines, Objects}
+use Rattle.command_line.specs.declared.form.Form.{Form}
+use Rattle.command_line.specs.declared.form.Form.TheVariants.{Lines, Objects}
 use Rattle.casbench.specs.declared.named_text.NamedText.{NamedText}
 use Rattle.casbench.specs.declared.outcome.Outcome.{Outcome}
 use Rattle.casbench.specs.declared.outcome.Outcome.TheVariants.{Answered}

@@ -10,14 +10,10 @@ use Rattle.stream_io.specs.declared.stream_fault.StreamFault.{StreamFault}
 -- Source: profile.
 abbrev pub MayFail : Request → StreamFault → Type 0
 MayFail (request.Check file conflicts workers ruling least) fault = IsWorkedFault fault
-MayFail (request.CheckEach files conflicts workers ruling least) fault = IsWorkedFault fault
-MayFail (request.Witness file conflicts ruling) fault = IsStreamFault fault
-MayFail (request.Verify history witness conflicts) fault = IsStreamFault fault
-MayFail (request.CheckInJson files conflicts workers ruling least) fault = IsWorkedFault fault
-MayFail (request.WitnessInJson file conflicts ruling) fault = IsStreamFault fault
-MayFail (request.VerifyInJson history witness conflicts) fault = IsStreamFault fault
+MayFail (request.CheckEach files form conflicts workers ruling least) fault = IsWorkedFault fault
+MayFail (request.Witness file form conflicts ruling) fault = IsStreamFault fault
+MayFail (request.Verify history witness form conflicts) fault = IsStreamFault fault
 MayFail (request.Bulk body reply first) fault = IsStreamFault fault
 MayFail (request.Run setting manner) fault = IsRunFault fault
 MayFail (request.Search seeds setting disturbance) fault = IsRunFault fault
-MayFail (request.Explain file conflicts workers ruling page) fault = IsWorkedFault fault
-MayFail (request.ExplainInJson file conflicts workers ruling page) fault = IsWorkedFault fault
+MayFail (request.Explain file form conflicts workers ruling page) fault = IsWorkedFault fault

@@ -4,4 +4,5 @@ pub mod Faults
 pub mod Input
 pub mod Objects
 pub mod Outcomes
+pub mod Requests
 pub mod aids

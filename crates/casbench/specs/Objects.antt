@@ -1,9 +1,12 @@
 -- What is written in objects of JSON.
 use Rattle.std.specs.Prelude.{◌≡◌, ℕ, List, Option, IfSome, Some}
+use Rattle.command_line.specs.declared.form.Form.{Form}
+use Rattle.command_line.specs.declared.form.Form.TheVariants.{Lines, Objects}
 use Rattle.doc_register.specs.declared.state.Conflicts.{Conflicts}
 use Rattle.evidence.specs.declared.ruling_out.RulingOut.{RulingOut}
 use Rattle.report.specs.Details.{IsProvedOf}
-use Rattle.report.specs.Verdict.{AnswersInput, IsVerifyAnswer, IsWitnessAnswer}
+use Rattle.report.specs.Explained.{ExplainsInput}
+use Rattle.report.specs.Verdict.{AnswersInput, IsVerifyAnswer, IsWitnessAnswer, VerifiesInputs, WitnessesInput}
 use Rattle.result_lines.specs.Objects.{line_of, object_text}
 use Rattle.result_lines.specs.declared.facts.Facts.{Facts}
 use Rattle.result_lines.specs.declared.reported.Reported.{Reported}
@@ -50,3 +53,24 @@ VerifiesInJson file conflicts history witness status text =
 abbrev pub ExplainsInJson : List ℕ → RulingOut → Conflicts → Option (List ℕ) → Status → List ℕ → Type 0
 ExplainsInJson file ruling conflicts input status text =
     (line : List ℕ) × AnswersInput ruling conflicts input status line × IsObjectOn conflicts file input line text
+
+-- ---- in lines or in objects, as is asked for
+
+-- what is written if a witness is asked for (`WitnessesInput`, `WitnessesInJson`)
+-- Source: profile.
+abbrev pub WitnessesInForm : Form → List ℕ → RulingOut → Conflicts → Option (List ℕ) → Status → List ℕ → Type 0
+WitnessesInForm Lines file ruling conflicts input status text = WitnessesInput ruling conflicts input status text
+WitnessesInForm Objects file ruling conflicts input status text = WitnessesInJson file ruling conflicts input status text
+
+-- what is written of a check of a witness (`VerifiesInputs`, `VerifiesInJson`)
+-- Source: profile.
+abbrev pub VerifiesInForm : Form → List ℕ → Conflicts → Option (List ℕ) → Option (List ℕ) → Status → List ℕ → Type 0
+VerifiesInForm Lines file conflicts history witness status text = VerifiesInputs conflicts history witness status text
+VerifiesInForm Objects file conflicts history witness status text = VerifiesInJson file conflicts history witness status text
+
+-- what is written of a history that is explained: in lines the text begins with the line of a check (`ExplainsInput`);
+-- in objects it is the object of one (`ExplainsInJson`)
+-- Source: profile.
+abbrev pub ExplainsInForm : Form → List ℕ → RulingOut → Conflicts → Option (List ℕ) → Status → List ℕ → Type 0
+ExplainsInForm Lines file ruling conflicts input status text = ExplainsInput ruling conflicts input status text
+ExplainsInForm Objects file ruling conflicts input status text = ExplainsInJson file ruling conflicts input status text

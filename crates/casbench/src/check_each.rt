@@ -1,26 +1,28 @@
-ghost use Rattle.std.specs.Prelude.{Some as Just, None as Nothing, Ok as Fine, Err as Failed, ◌≡◌, ◌≢◌, ◌≤◌, ◌++◌, ℕ, List, IfErr, IfOk, IsErrOf, codes, length, map};
+ghost use Rattle.std.specs.Prelude.{Some as Just, None as Nothing, Ok as Fine, Err as Failed, ◌≡◌, ◌≢◌, ◌≤◌, ◌++◌, List, IfErr, IfOk, IsErrOf, codes, length, map};
 ghost use Rattle.std.specs.Io.KnownBytes.{Keeps};
-ghost use Rattle.casbench.specs.Each.{AnswersEach, IsCutOffEach, named_of};
-ghost use Rattle.casbench.specs.Outcomes.{IsJudged, status_of};
+ghost use Rattle.casbench.specs.Each.{AnswersEach, AreOfFiles, IsCutOffEach, Named, named_of, or_input};
 ghost use Rattle.casbench.specs.aids.Checking.{AreChecked, IsChecked, IsWrittenOf};
-ghost use Rattle.report.specs.Calls.{CountsCalls};
 ghost use Rattle.report.specs.Workers.{AreWorkers};
 ghost use Rattle.stream_io.specs.Faults.{IsCheckFault, IsReadingFault, IsStreamFault, IsWorkedFault};
 ghost use Rattle.stream_io.specs.Written.{HasAnswer};
 
 use crate::exit::greater;
-use crate::form::Form;
+use crate::files::open_each_or;
+use crate::line_again::add_time;
 use crate::named_text::{NamedText, Written};
 use crate::notes::{note_calls, note_if_compressed};
 use crate::objects::details_object;
 use crate::outcome::{Outcome, outcome_of};
+use crate::progress_line::ProgressLine;
 use crate::stopwatch::Stopwatch;
+use command_line::Form;
 use events::HashKeys;
 use report::{
-    CheckOptions, Status, StreamFault, calls_reported, check_details, check_text, status_of,
+    CheckOptions, Kept, Progress, Status, StreamFault, calls_reported, check_details, check_text,
+    status_of,
 };
 use std::alloc::{AllocError, Global};
-use std::io::{Read, Write};
+use std::io::{Read, Seek, Write};
 use std::rt::Files;
 use std::sync::Wait;
 use std::thread::{Threads, for_each_mut};
@@ -46,13 +48,14 @@ fn check_in_line<T: Threads + Wait + Sync, S: Read>(
     name: &str,
     source: &mut S,
     options: CheckOptions,
+    progress: &Progress,
 ) -> Result<Written, StreamFault>
     requires workers { AreWorkers options.workers }
     ensures answered { IfOk result (IsWrittenOf options.ruling_out options.conflicts Form.Lines name.now (S.remaining source.old)) }
     ensures reported { IfErr result IsCheckFault }
     ensures alone { options.workers ≡ 1 → IfErr result IsReadingFault }
 {
-    let found = check_text(threads, alloc, keys, source, options)?;
+    let found = check_text(threads, alloc, keys, source, options, progress)?;
     Ok(Written {
         status: found.answer.status,
         calls: found.calls,
@@ -61,14 +64,16 @@ fn check_in_line<T: Threads + Wait + Sync, S: Read>(
 }
 
 // Checks a text, and returns its status, the number of calls if that is known, and its object.
-fn check_in_object<F: Clock, T: Threads + Wait + Sync, S: Read>(
+fn check_in_object<F: Clock, T: Threads + Wait + Sync, S: Read + Seek>(
     rt: &F,
     threads: &T,
     alloc: Global,
     keys: HashKeys,
     name: &str,
     source: &mut S,
+    kept: Kept,
     options: CheckOptions,
+    progress: &Progress,
 ) -> Result<Written, StreamFault>
     requires workers { AreWorkers options.workers }
     ensures answered { IfOk result (IsWrittenOf options.ruling_out options.conflicts Form.Objects name.now (S.remaining source.old)) }
@@ -76,7 +81,8 @@ fn check_in_object<F: Clock, T: Threads + Wait + Sync, S: Read>(
     ensures alone { options.workers ≡ 1 → IfErr result IsReadingFault }
 {
     let stopwatch = Stopwatch::start(rt);
-    let details = check_details(threads, alloc, keys, source, options)?;
+    let mut details = check_details(threads, alloc, keys, source, options, progress, kept)?;
+    add_time(alloc, source, kept, &mut details.broken_reply)?;
     Ok(Written {
         status: status_of(&details.reported),
         calls: calls_reported(&details.reported),
@@ -85,14 +91,16 @@ fn check_in_object<F: Clock, T: Threads + Wait + Sync, S: Read>(
 }
 
 // Checks a text, and returns its status, the number of calls if that is known, and what is written of it.
-fn check_in_form<F: Clock, T: Threads + Wait + Sync, S: Read>(
+fn check_in_form<F: Clock, T: Threads + Wait + Sync, S: Read + Seek>(
     rt: &F,
     threads: &T,
     alloc: Global,
     keys: HashKeys,
     name: &str,
     source: &mut S,
+    kept: Kept,
     options: CheckOptions,
+    progress: &Progress,
     form: Form,
 ) -> Result<Written, StreamFault>
     requires workers { AreWorkers options.workers }
@@ -101,8 +109,10 @@ fn check_in_form<F: Clock, T: Threads + Wait + Sync, S: Read>(
     ensures alone { options.workers ≡ 1 → IfErr result IsReadingFault }
 {
     match form {
-        Form::Lines => check_in_line(threads, alloc, keys, name, source, options),
-        Form::Objects => check_in_object(rt, threads, alloc, keys, name, source, options),
+        Form::Lines => check_in_line(threads, alloc, keys, name, source, options, progress),
+        Form::Objects => check_in_object(
+            rt, threads, alloc, keys, name, source, kept, options, progress,
+        ),
     }
 }
 
@@ -122,13 +132,14 @@ fn shared_out(options: CheckOptions, texts: usize) -> CheckOptions
 }
 
 // Checks the text beside others, so many in all. It then holds what is written of it.
-fn check_named<F: Clock, T: Threads + Wait + Sync, S: Read>(
+fn check_named<F: Clock, T: Threads + Wait + Sync, S: Read + Seek>(
     rt: &F,
     threads: &T,
     alloc: Global,
     keys: HashKeys,
     text: &mut NamedText<'_, S>,
     options: CheckOptions,
+    progress: &Progress,
     form: Form,
     beside: usize,
 )
@@ -138,18 +149,30 @@ fn check_named<F: Clock, T: Threads + Wait + Sync, S: Read>(
 {
     let own = shared_out(options, beside);
     let name = text.name;
-    let written = check_in_form(rt, threads, alloc, keys, name, &mut text.source, own, form);
+    let written = check_in_form(
+        rt,
+        threads,
+        alloc,
+        keys,
+        name,
+        &mut text.source,
+        text.kept,
+        own,
+        progress,
+        form,
+    );
     text.written = Some(written);
 }
 
 // Checks each of the texts, as many beside each other as there are workers.
-fn check_all<F: Clock + Sync, T: Threads + Wait + Sync, S: Read + Send>(
+fn check_all<F: Clock + Sync, T: Threads + Wait + Sync, S: Read + Seek + Send>(
     rt: &F,
     threads: &T,
     alloc: Global,
     keys: HashKeys,
     texts: &mut [NamedText<'_, S>],
     options: CheckOptions,
+    progress: &Progress,
     form: Form,
 )
     requires workers { AreWorkers options.workers }
@@ -163,7 +186,11 @@ fn check_all<F: Clock + Sync, T: Threads + Wait + Sync, S: Read + Send>(
         beside,
         &|_, text: &mut NamedText<'_, S>|
             requires { AreWorkers options.workers × (1 ≤ beside) }
-        { check_named(rt, threads, alloc, keys, text, options, form, beside) },
+        {
+            check_named(
+                rt, threads, alloc, keys, text, options, progress, form, beside,
+            )
+        },
     );
 }
 
@@ -180,88 +207,135 @@ fn written_of<'t, S>(text: &'t NamedText<'_, S>) -> Result<&'t Written, StreamFa
     }
 }
 
-// Returns what a text came to of which this is written. If it has few calls, or may be compressed, standard error says
-// so.
-fn judged<F: Files + Eprint>(
-    rt: &F,
-    alloc: Global,
-    name: &str,
-    written: &Written,
-    at_least: u64,
-) -> Outcome
-    ensures status { status_of result ≡ written.now.status }
-    ensures judged { (input : List ℕ) → CountsCalls input written.now.status written.now.calls → IsJudged at_least input result }
-{
-    note_calls(rt, alloc, Some(name), written.calls, at_least);
-    if written.status == Status::Refused {
-        note_if_compressed(rt, Some(name));
-    }
-    outcome_of(written.status, written.calls, at_least)
-}
-
 // Checks each of the texts, and returns what they came to, and what is written of them.
-fn checked_texts<F: Files + Eprint + Clock + Sync, T: Threads + Wait + Sync, S: Read + Send + Drop>(
+fn checked_texts<F: Clock + Sync, T: Threads + Wait + Sync, S: Read + Seek + Send>(
     rt: &F,
     threads: &T,
     alloc: Global,
     keys: HashKeys,
-    texts: Vec<NamedText<'_, S>>,
+    texts: &mut [NamedText<'_, S>],
     options: CheckOptions,
+    progress: &Progress,
     at_least: u64,
     form: Form,
 ) -> Result<(Outcome, Vec<u8>), StreamFault>
     requires workers { AreWorkers options.workers }
-    ensures answered { IfOk result (λ made. AnswersEach options.ruling_out options.conflicts at_least form (map (named_of S.remaining) texts.entry.items)
+    ensures answered { IfOk result (λ made. AnswersEach options.ruling_out options.conflicts at_least form (map (named_of S.remaining) texts.old)
         made.0 made.1.items) }
     ensures reported { IfErr result IsCheckFault }
     ensures alone { options.workers ≡ 1 → IfErr result IsReadingFault }
 {
-    let mut texts = texts;
-    check_all(rt, threads, alloc, keys, &mut texts, options, form);
+    check_all(rt, threads, alloc, keys, texts, options, progress, form);
     let mut outcome = Outcome::Answered(Status::Yes);
     let mut lines = Vec::new(alloc);
     for place in 0..texts.len() {
         let text = &texts[place];
         let written = written_of(text)?;
-        let next = judged(rt, alloc, text.name, written, at_least);
+        let next = outcome_of(written.status, written.calls, at_least);
         outcome = greater(outcome, next);
         lines.extend_from_slice(&written.text)?;
     }
     Ok((outcome, lines))
 }
 
-/// Checks each of several texts, and writes for each its line, as `check` does, behind its name and a colon, or its
-/// object, in the order of the texts. The outcome is the one with the greatest exit status. As many texts are checked
-/// beside each other as there are workers; with more workers than texts each text has several. Nothing is written
-/// before all are checked. If the answer to one is yes, and it has no calls or fewer than are asked for, standard
-/// error says so. It waits as `report::check_stream` does.
-///
-/// Errors: `Read`, `NoMemory` and `Worker`, those of the first text that has one; then `Write`.
-pub fn check_each<
-    F: Files + Eprint + Clock + Sync,
+// Says of each text that was checked if it has few calls, or may be compressed.
+fn note_each<R: Files + Eprint, S>(
+    rt: &R,
+    alloc: Global,
+    texts: &[NamedText<'_, S>],
+    at_least: u64,
+) {
+    for text in texts {
+        if let Some(Ok(written)) = &text.written {
+            note_calls(rt, alloc, Some(text.name), written.calls, at_least);
+            if written.status == Status::Refused {
+                note_if_compressed(rt, Some(text.name));
+            }
+        }
+    }
+}
+
+// Checks each of the texts, and writes what is written of them.
+fn check_each<
+    R: Files + Eprint + Clock + Sync,
     T: Threads + Wait + Sync,
-    S: Read + Send + Drop,
+    S: Read + Seek + Send + Drop,
     W: Write,
 >(
-    rt: &F,
+    rt: &R,
     threads: &T,
     alloc: Global,
     keys: HashKeys,
     texts: Vec<NamedText<'_, S>>,
     writer: &mut W,
     options: CheckOptions,
+    line: &ProgressLine,
     at_least: u64,
     form: Form,
 ) -> Result<Outcome, StreamFault>
-    // There are 1 to 16 workers.
     requires workers { AreWorkers options.workers }
-    // The writer holds the lines or objects after what it held, and they answer the bytes of the texts, in their order.
     ensures answered { IfOk result (λ outcome. HasAnswer (AnswersEach options.ruling_out options.conflicts at_least form (map (named_of S.remaining) texts.entry.items) outcome)
         (W.contents writer.old) (W.contents writer.new)) }
-    // After `Write` the writer holds a prefix of such a text after what it held.
     ensures cut_off { IsErrOf result StreamFault.Write
         → IsCutOffEach options.ruling_out options.conflicts at_least form (map (named_of S.remaining) texts.entry.items)
         (W.contents writer.old) (W.contents writer.new) }
+    ensures kept { IfErr result (λ fault. fault ≢ StreamFault.Write
+        → Keeps (W.contents writer.old) (W.contents writer.new)) }
+    ensures reported { IfErr result IsWorkedFault }
+    ensures alone { options.workers ≡ 1 → IfErr result IsStreamFault }
+{
+    let mut texts = texts;
+    let (outcome, lines) = checked_texts(
+        rt,
+        threads,
+        alloc,
+        keys,
+        &mut texts,
+        options,
+        line.progress(),
+        at_least,
+        form,
+    )?;
+    line.end(rt, threads);
+    write_text(writer, &lines)?;
+    note_each(rt, alloc, &texts, at_least);
+    Ok(outcome)
+}
+
+/// Checks the text of each of the files, or the input if there are none, and writes for each its line, as
+/// `report::check_stream` does, behind its name and a colon, or its object, in the order of the files. The outcome is
+/// the one with the greatest exit status. As many texts are checked beside each other as there are workers; with more
+/// workers than texts each text has several. Nothing is written before all are checked. If the answer to one is yes,
+/// and it has no calls or fewer than are asked for, standard error says so. It waits as `report::check_stream` does.
+///
+/// Errors: `Read` if a file can't be opened, and then nothing is read; `Read`, `NoMemory` and `Worker`, those of the
+/// first text that has one; then `Write`.
+pub fn check_files<R, T: Threads + Wait + Sync, I: Read + Send + Drop, W: Write>(
+    rt: &R,
+    threads: &T,
+    alloc: Global,
+    keys: HashKeys,
+    files: &[&str],
+    input: I,
+    writer: &mut W,
+    options: CheckOptions,
+    line: &ProgressLine,
+    at_least: u64,
+    form: Form,
+) -> Result<Outcome, StreamFault>
+where
+    R: Files + Eprint + Clock + Sync,
+    R::File: Send,
+    // There are 1 to 16 workers.
+    requires workers { AreWorkers options.workers }
+    // The writer holds the lines or objects after what it held, and they answer the bytes of the texts, in their order.
+    ensures answered { IfOk result (λ outcome. (texts : List Named)
+        × AreOfFiles (or_input (map (λ f. f.now) files.now)) (I.remaining input) texts
+        × HasAnswer (AnswersEach options.ruling_out options.conflicts at_least form texts outcome) (W.contents writer.old) (W.contents writer.new)) }
+    // After `Write` the writer holds a prefix of such a text after what it held.
+    ensures cut_off { IsErrOf result StreamFault.Write → (texts : List Named)
+        × AreOfFiles (or_input (map (λ f. f.now) files.now)) (I.remaining input) texts
+        × IsCutOffEach options.ruling_out options.conflicts at_least form texts (W.contents writer.old) (W.contents writer.new) }
     // After any other error the writer holds what it held.
     ensures kept { IfErr result (λ fault. fault ≢ StreamFault.Write
         → Keeps (W.contents writer.old) (W.contents writer.new)) }
@@ -270,7 +344,8 @@ pub fn check_each<
     // With one worker, the caller's thread, the error is never `Worker`.
     ensures alone { options.workers ≡ 1 → IfErr result IsStreamFault }
 {
-    let (outcome, lines) = checked_texts(rt, threads, alloc, keys, texts, options, at_least, form)?;
-    write_text(writer, &lines)?;
-    Ok(outcome)
+    let texts = open_each_or(rt, alloc, files, input)?;
+    check_each(
+        rt, threads, alloc, keys, texts, writer, options, line, at_least, form,
+    )
 }

@@ -1,20 +1,24 @@
 //! Explanations, and the pages that they are written to.
 
-ghost use Rattle.std.specs.Prelude.{◌≡◌, ◌≢◌, ◌⊎◌, ℕ, IfErr, IfOk, IsErrOf, take};
+ghost use Rattle.std.specs.Prelude.{◌≡◌, ◌≢◌, ◌⊎◌, ℕ, true, IfErr, IfOk, IsErrOf, option_map, take};
 ghost use Rattle.std.specs.Io.KnownBytes.{Appends, Keeps};
-ghost use Rattle.casbench.specs.aids.Explaining.{ExplainsInForm};
+ghost use Rattle.casbench.specs.Input.{name_of, names_input};
+ghost use Rattle.casbench.specs.Objects.{ExplainsInForm};
+ghost use Rattle.casbench.specs.Outcomes.{IsAnswerWith};
 ghost use Rattle.report.specs.Workers.{AreWorkers};
 ghost use Rattle.stream_io.specs.Faults.{IsCheckFault, IsStreamFault, IsWorkedFault};
 ghost use Rattle.stream_io.specs.Written.{HasAnswer, HasPrefix};
 
-use crate::files::INPUT;
-use crate::form::Form;
+use crate::files::{INPUT, open_or};
 use crate::objects::explained_object;
-use crate::page_file::ReadyPage;
-use command_line::PageRequest;
+use crate::outcome::Outcome;
+use crate::page_file::{ReadyPage, refuse_history};
+use crate::progress_line::ProgressLine;
+use command_line::{Form, PageRequest};
 use events::HashKeys;
 use report::{
-    Answer, CheckOptions, PageOptions, Status, StreamFault, View, explained_answer, write_answer,
+    Answer, CheckOptions, PageOptions, Progress, Status, StreamFault, View, explained_answer,
+    write_answer,
 };
 use std::alloc::Global;
 use std::io::{Read, Write};
@@ -44,6 +48,7 @@ fn explained<F: Clock, T: Threads + Wait + Sync, R: Read>(
     name: &str,
     history: &mut R,
     options: CheckOptions,
+    progress: &Progress,
     shown: Option<PageOptions<'_>>,
     form: Form,
 ) -> Result<(Answer, Option<Vec<u8>>), StreamFault>
@@ -53,9 +58,11 @@ fn explained<F: Clock, T: Threads + Wait + Sync, R: Read>(
     ensures reported { IfErr result IsCheckFault }
 {
     match form {
-        Form::Lines => explained_answer(threads, alloc, keys, history, options, shown),
+        Form::Lines => explained_answer(threads, alloc, keys, history, options, progress, shown),
         Form::Objects => {
-            explained_object(rt, threads, alloc, keys, name, history, options, shown)
+            explained_object(
+                rt, threads, alloc, keys, name, history, options, progress, shown,
+            )
         }
     }
 }
@@ -91,12 +98,12 @@ fn write_with_page<F: Files + Eprint, W: Write>(
     }
 }
 
-/// Checks a history and writes what was found, with its explanation, in this form; on a page too, if one is asked
-/// for, which takes its place when the answer is written. `name` is that of the history's file, or `-`.
-///
-/// Errors, whichever comes first: `Read`, `NoMemory`, `Worker`; for a page `Write` or `NoMemory` if a new one can't be
-/// written; `Write` of the writer; and `Write` if the page can't take its place. It waits as `report::check_stream` does.
-pub fn explain<F: Files + Eprint + Clock, T: Threads + Wait + Sync, R: Read, W: Write>(
+// Checks a history and writes what was found, with its explanation, in this form; on a page too, if one is asked
+// for, which takes its place when the answer is written. `name` is that of the history's file, or `-`.
+//
+// Errors, whichever comes first: `Read`, `NoMemory`, `Worker`; for a page `Write` or `NoMemory` if a new one can't be
+// written; `Write` of the writer; and `Write` if the page can't take its place.
+fn explain<F: Files + Eprint + Clock, T: Threads + Wait + Sync, R: Read, W: Write>(
     rt: &F,
     threads: &T,
     alloc: Global,
@@ -106,22 +113,18 @@ pub fn explain<F: Files + Eprint + Clock, T: Threads + Wait + Sync, R: Read, W: 
     writer: &mut W,
     page: Option<PageRequest<'_>>,
     options: CheckOptions,
+    line: &ProgressLine,
     form: Form,
 ) -> Result<Status, StreamFault>
-    // There are 1 to 16 workers.
     requires workers { AreWorkers options.workers }
-    // The writer holds what is written of the bytes of the reader, after what it held.
     ensures explained { IfOk result (λ status. HasAnswer (ExplainsInForm form name.now
         options.ruling_out options.conflicts (R.remaining history.old) status) (W.contents writer.old) (W.contents writer.new)) }
-    // After `Write` it holds a prefix of that, or no more than it held, since a page can fail before.
     ensures cut_off { IsErrOf result StreamFault.Write
         → HasPrefix (ExplainsInForm form name.now options.ruling_out options.conflicts
         (R.remaining history.old)) (W.contents writer.old) (W.contents writer.new)
         ⊎ Keeps (W.contents writer.old) (W.contents writer.new) }
-    // After any other error it holds what it held.
     ensures kept { IfErr result (λ fault. fault ≢ StreamFault.Write
         → Keeps (W.contents writer.old) (W.contents writer.new)) }
-    // The only errors are `Read`, `Write`, `NoMemory` and `Worker`.
     ensures reported { IfErr result IsWorkedFault }
 {
     let shown = match page {
@@ -129,10 +132,75 @@ pub fn explain<F: Files + Eprint + Clock, T: Threads + Wait + Sync, R: Read, W: 
         None => None,
     };
     let (answer, made) = explained(
-        rt, threads, alloc, keys, name, history, options, shown, form,
+        rt,
+        threads,
+        alloc,
+        keys,
+        name,
+        history,
+        options,
+        line.progress(),
+        shown,
+        form,
     )?;
+    line.end(rt, threads);
     match (page, &made) {
         (Some(page), Some(made)) => write_with_page(rt, alloc, writer, &answer, page.path, made),
         _ => write_answer(writer, &answer),
     }
+}
+
+/// Checks the history of the file, or the input, and writes what was found, with its explanation, in this form; on a
+/// page too, if one is asked for, which takes its place when the answer is written.
+///
+/// Errors, whichever comes first: `Read` if the file can't be opened; `Write` if the page is the history's own file;
+/// those of `report::explain_stream`; for a page `Write` or `NoMemory` if a new one can't be written; `Write` of the
+/// writer; and `Write` if the page can't take its place. It waits as `report::check_stream` does.
+pub fn explain_file<F: Files + Eprint + Clock, T: Threads + Wait + Sync, I: Read + Drop, W: Write>(
+    rt: &F,
+    threads: &T,
+    alloc: Global,
+    keys: HashKeys,
+    file: Option<&str>,
+    input: I,
+    writer: &mut W,
+    page: Option<PageRequest<'_>>,
+    options: CheckOptions,
+    line: &ProgressLine,
+    form: Form,
+) -> Result<Outcome, StreamFault>
+    // There are 1 to 16 workers.
+    requires workers { AreWorkers options.workers }
+    // If no file is named, or `-`, the writer holds what is written of the input, after what it held.
+    ensures explained { names_input (option_map (λ t. t.now) file.entry) ≡ true
+        → IfOk result (IsAnswerWith (λ status. HasAnswer (ExplainsInForm form (name_of (option_map (λ t. t.now) file.entry))
+        options.ruling_out options.conflicts (I.remaining input) status) (W.contents writer.old) (W.contents writer.new))) }
+    // After `Write` it then holds a prefix of that, or no more than it held, since a page can fail before.
+    ensures cut_off { IsErrOf result StreamFault.Write → names_input (option_map (λ t. t.now) file.entry) ≡ true
+        → HasPrefix (ExplainsInForm form (name_of (option_map (λ t. t.now) file.entry)) options.ruling_out options.conflicts
+        (I.remaining input)) (W.contents writer.old) (W.contents writer.new)
+        ⊎ Keeps (W.contents writer.old) (W.contents writer.new) }
+    // After any other error it holds what it held.
+    ensures kept { IfErr result (λ fault. fault ≢ StreamFault.Write
+        → Keeps (W.contents writer.old) (W.contents writer.new)) }
+    // The only errors are `Read`, `Write`, `NoMemory` and `Worker`.
+    ensures reported { IfErr result IsWorkedFault }
+{
+    let mut history = open_or(rt, file, input)?;
+    refuse_history(rt, page.map(|page| page.path), &history)?;
+    let name = file.unwrap_or(INPUT);
+    let status = explain(
+        rt,
+        threads,
+        alloc,
+        keys,
+        name,
+        &mut history,
+        writer,
+        page,
+        options,
+        line,
+        form,
+    )?;
+    Ok(Outcome::Answered(status))
 }

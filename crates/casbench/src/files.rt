@@ -6,10 +6,10 @@ ghost use Rattle.casbench.specs.aids.Source.{remaining_of};
 ghost use Rattle.casbench.specs.declared.files.Source.TheVariants.{Input};
 
 use crate::named_text::NamedText;
-use report::StreamFault;
+use report::{Kept, StreamFault};
 use std::alloc::Global;
 use std::fs::{self, OpenFile};
-use std::io::{self, ErrorKind, Read};
+use std::io::{self, ErrorKind, Read, Seek, SeekFrom};
 use std::rt::Files;
 
 /// The name by which standard input is asked for, as if it were a file.
@@ -30,6 +30,16 @@ impl<F: Read, I: Read> Read for Source<F, I> {
         match self {
             Source::File(file) => file.read(buf),
             Source::Input(input) => input.read(buf),
+        }
+    }
+}
+
+impl<F: Seek, I> Seek for Source<F, I> {
+    // The input is read once.
+    fn seek(&mut self, to: SeekFrom) -> io::Result<u64> {
+        match self {
+            Source::File(file) => file.seek(to),
+            Source::Input(_) => Err(io::Error::from(ErrorKind::Unsupported)),
         }
     }
 }
@@ -122,6 +132,18 @@ fn open_next<R: Files + Eprint, I: Drop>(
     }
 }
 
+// Returns what is kept of the lines of a text: their times, if it can be read only once, as the input or a pipe. A file
+// is read again if one of its times is wanted, so that a check with times costs no more than one without.
+fn kept_of<F: OpenFile, I>(source: &Source<F, I>) -> Kept {
+    match source {
+        Source::File(file) => match file.metadata() {
+            Ok(metadata) if metadata.is_file() => Kept::Numbers,
+            _ => Kept::Times,
+        },
+        Source::Input(_) => Kept::Times,
+    }
+}
+
 // Opens each of the files in turn, as by `open`; `-` is the input, for one of them only. If one can't be
 // opened, those behind it aren't tried; this order is tested, not proved.
 //
@@ -143,9 +165,11 @@ fn open_each<'a, R: Files + Eprint, I: Drop>(
     let mut texts = Vec::new(alloc);
     for name in names {
         let source = open_next(rt, name, &mut left)?;
+        let kept = kept_of(&source);
         let text = NamedText {
             name,
             source,
+            kept,
             written: None,
         };
         match texts.push(text) {
@@ -180,6 +204,7 @@ pub fn open_each_or<'a, R: Files + Eprint, I: Drop>(
     let text = NamedText {
         name: INPUT,
         source: Source::Input(input),
+        kept: Kept::Times,
         written: None,
     };
     match texts.push(text) {
@@ -188,24 +213,22 @@ pub fn open_each_or<'a, R: Files + Eprint, I: Drop>(
     }
 }
 
-/// Opens both files as by `open_or`, the first before the second. If the first can't be opened, the second
-/// isn't tried; this order is tested, not proved. The input can be one of the two only.
+/// Opens both files as by `open`, the first before the second; `-` is the input, for one of them only. If the first
+/// can't be opened, the second isn't tried; this order is tested, not proved.
 pub fn open_both<R: Files + Eprint, I: Drop>(
     rt: &R,
     first: &str,
     second: &str,
     input: I,
 ) -> Result<(Source<R::File, I>, Source<R::File, I>), StreamFault>
+    // `first`, `second`: The one that is named `-` is the input itself.
+    ensures first { names_input (Some first.now) ≡ true → IfOk result (λ both. both.0 ≡ Input input) }
+    ensures second { names_input (Some second.now) ≡ true → IfOk result (λ both. both.1 ≡ Input input) }
     // The only error is `Read`.
-    ensures { IfErr result (λ fault. fault ≡ StreamFault.Read) }
+    ensures err { IfErr result (λ fault. fault ≡ StreamFault.Read) }
 {
-    if first != INPUT {
-        let first = open(rt, first)?;
-        return Ok((Source::File(first), open_or(rt, Some(second), input)?));
-    }
-    if second == INPUT {
-        return Err(named_twice(rt));
-    }
-    let second = open(rt, second)?;
-    Ok((Source::Input(input), Source::File(second)))
+    let mut left = Some(input);
+    let first = open_next(rt, first, &mut left)?;
+    let second = open_next(rt, second, &mut left)?;
+    Ok((first, second))
 }

@@ -7,36 +7,43 @@
 //! ```
 #![tactic(auto)]
 
+mod bulk;
 mod check;
 mod check_each;
 mod exit;
 mod explain;
 mod files;
-mod form;
+mod line_again;
 mod named_text;
 mod notes;
 mod objects;
 mod outcome;
 mod output;
 mod page_file;
+mod progress_line;
 mod run;
 mod search_reporter;
 mod stopwatch;
 mod terminal;
+mod verify;
+mod witness;
 
 use clap::error::ErrorKind;
-use command_line::read_request;
+use command_line::{Request, read_request};
 use events::HashKeys;
 use exit::{ARGUMENTS_REFUSED, arguments_code, fault_code, outcome_code};
-use notes::{note_compressed, note_terminal};
+use notes::{is_typed, note_compressed, note_terminal};
 use outcome::Outcome;
 use output::Output;
+use progress_line::ProgressLine;
 use report::{Status, StreamFault};
 use run::run;
 use std::process::ExitCode;
 use std::random::RandomSource;
-use std::rt::Env;
-use std::{env, io};
+use std::rt::{Env, Files};
+use std::sync::Arc;
+use std::{env, io, thread};
+use terminal::{STANDARD_ERROR, is_terminal};
 
 // Reports the fault on standard error and returns its exit status, also if standard error fails.
 fn report_fault(rt: &impl Eprint, fault: StreamFault) -> u8 {
@@ -83,6 +90,16 @@ fn drawn_keys(rt: &impl RandomSource) -> HashKeys {
     HashKeys::new(u64::from_le_bytes(first), u64::from_le_bytes(second))
 }
 
+// Whether what is asked for takes long sometimes, and standard error is a terminal, where that may be said.
+fn is_watched(rt: &impl Files, request: &Request<'_>) -> bool {
+    match request {
+        Request::Check { .. } | Request::CheckEach { .. } | Request::Explain { .. } => {
+            is_terminal(rt, STANDARD_ERROR)
+        }
+        _ => false,
+    }
+}
+
 fn main(rt: HostRuntime) -> ExitCode {
     let alloc = rt.alloc();
     let arguments = match process_arguments(&rt) {
@@ -93,10 +110,30 @@ fn main(rt: HostRuntime) -> ExitCode {
         Ok(request) => request,
         Err(error) => return ExitCode::from(report_arguments(&rt, &error)),
     };
+    let Ok(line) = Arc::new(alloc, ProgressLine::new()) else {
+        return ExitCode::from(report_fault(&rt, StreamFault::NoMemory));
+    };
+    if is_typed(&rt, &request) {
+        note_terminal(&rt);
+    } else if is_watched(&rt, &request) {
+        if let Ok(shared) = Arc::try_clone(&line) {
+            let _ = thread::spawn(&rt, move || shared.show_until_ended(&rt));
+        }
+    }
     let keys = drawn_keys(&rt);
-    note_terminal(&rt, &request);
     let mut output = Output::new(rt.stdout());
-    match run(alloc, keys, &rt, &rt, rt.stdin(), &mut output, &request) {
+    let done = run(
+        alloc,
+        keys,
+        &rt,
+        &rt,
+        rt.stdin(),
+        &mut output,
+        &request,
+        &line,
+    );
+    line.end(&rt, &rt);
+    match done {
         Ok(outcome) => {
             if outcome == Outcome::Answered(Status::Refused) {
                 note_compressed(&rt, &request);

@@ -1,4 +1,4 @@
-use report::{Status, StreamFault};
+use report::{Kept, Status, StreamFault};
 
 /// What is written of a text: with which status, and of how many calls, if that is known.
 #[derive(Drop)]
@@ -13,6 +13,8 @@ pub struct Written {
 pub struct NamedText<'a, S> {
     pub name: &'a str,
     pub source: S,
+    /// What is kept of its lines.
+    pub kept: Kept,
     /// What is written of it, or why nothing is; `None` until it is checked.
     pub written: Option<Result<Written, StreamFault>>,
 }

@@ -18,48 +18,45 @@ fn files_of<'a>(request: &Request<'a>) -> (Option<&'a str>, Option<&'a str>) {
     match *request {
         Request::Check { file, .. }
         | Request::Witness { file, .. }
-        | Request::WitnessInJson { file, .. }
-        | Request::Explain { file, .. }
-        | Request::ExplainInJson { file, .. } => (Some(file.unwrap_or(INPUT)), None),
+        | Request::Explain { file, .. } => (Some(file.unwrap_or(INPUT)), None),
         Request::Verify {
-            history,
-            witness,
-            ..
-        }
-        | Request::VerifyInJson {
             history,
             witness,
             ..
         } => (Some(history), Some(witness)),
         Request::Bulk { body, reply, .. } => (Some(body), Some(reply)),
-        Request::CheckEach { .. }
-        | Request::CheckInJson { .. }
-        | Request::Run(..)
-        | Request::Search(..) => (None, None),
+        Request::CheckEach { .. } | Request::Run(..) | Request::Search(..) => (None, None),
     }
 }
 
-// Whether standard input is among the texts that are read.
-fn reads_input(request: &Request<'_>) -> bool {
-    match request {
-        Request::CheckEach { files, .. } => files.iter().any(|file| *file == INPUT),
-        Request::CheckInJson { files, .. } => {
-            files.is_empty() || files.iter().any(|file| *file == INPUT)
-        }
-        _ => {
-            let (first, second) = files_of(request);
-            first == Some(INPUT) || second == Some(INPUT)
-        }
+// Whether what has this name is a terminal, if something is named.
+fn is_typed_text(rt: &impl Files, name: Option<&str>) -> bool {
+    match name {
+        Some(INPUT) => is_terminal(rt, STANDARD_INPUT),
+        Some(path) => is_terminal(rt, path),
+        None => false,
     }
 }
 
-/// If a text is read from a terminal, says so, and how the text is ended.
-pub fn note_terminal<R: Files + Eprint>(rt: &R, request: &Request<'_>) {
-    if reads_input(request) && is_terminal(rt, STANDARD_INPUT) {
-        let _ = eprintln!(rt;
-            "casbench: reads from the terminal until Ctrl-D on a line of its own; for help: casbench --help"
-        );
+/// Returns whether a text is read from a terminal.
+pub fn is_typed(rt: &impl Files, request: &Request<'_>) -> bool {
+    if let Request::CheckEach { files, .. } = request {
+        for file in files {
+            if is_typed_text(rt, Some(*file)) {
+                return true;
+            }
+        }
+        return files.is_empty() && is_terminal(rt, STANDARD_INPUT);
     }
+    let (first, second) = files_of(request);
+    is_typed_text(rt, first) || is_typed_text(rt, second)
+}
+
+/// Says that a text is read from a terminal, and how the text is ended.
+pub fn note_terminal(rt: &impl Eprint) {
+    let _ = eprintln!(rt;
+        "casbench: reads from the terminal until Ctrl-D on a line of its own; for help: casbench --help"
+    );
 }
 
 /// If the name is that of a file that gzip compressed, says how it is read.

@@ -17,8 +17,9 @@ use crate::stopwatch::Stopwatch;
 use doc_register::Conflicts;
 use events::HashKeys;
 use report::{
-    Answer, CheckOptions, Details, ExplainedDetails, PageOptions, RulingOut, Status, StreamFault,
-    Witnessed, explained_details, status_of, verify_reported, witness_details, write_answer,
+    Answer, CheckOptions, Details, ExplainedDetails, PageOptions, Progress, RulingOut, Status,
+    StreamFault, Witnessed, explained_details, status_of, verify_reported, witness_details,
+    write_answer,
 };
 use result_lines::{Facts, Reported, object_line};
 use std::alloc::{AllocError, Global};
@@ -190,6 +191,7 @@ pub fn explained_object<C: Clock, T: Threads + Wait + Sync, R: Read>(
     name: &str,
     history: &mut R,
     options: CheckOptions,
+    progress: &Progress,
     shown: Option<PageOptions<'_>>,
 ) -> Result<(Answer, Option<Vec<u8>>), StreamFault>
     // There are 1 to 16 workers.
@@ -201,7 +203,7 @@ pub fn explained_object<C: Clock, T: Threads + Wait + Sync, R: Read>(
     ensures reported { IfErr result IsCheckFault }
 {
     let stopwatch = Stopwatch::start(clock);
-    let found = explained_details(threads, alloc, keys, history, options, shown)?;
+    let found = explained_details(threads, alloc, keys, history, options, progress, shown)?;
     let ExplainedDetails {
         details,
         explanation,

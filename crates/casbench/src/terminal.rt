@@ -5,6 +5,9 @@ use std::rt::Files;
 /// The name by which the system knows what standard input is.
 pub const STANDARD_INPUT: &str = "/dev/stdin";
 
+/// The name by which the system knows what standard error is.
+pub const STANDARD_ERROR: &str = "/dev/stderr";
+
 // Whether a device of this number is a terminal: a console or serial line, which drivers 4 and 5 have on
 // Linux, or a pseudo-terminal, which drivers 136 to 143 have.
 fn is_terminal_number(device: u64) -> bool {

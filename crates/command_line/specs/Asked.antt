@@ -1,5 +1,5 @@
 -- What the arguments of the command line ask for. `Request` is what the code made of them.
-use Rattle.std.specs.Prelude.{ℕ, ◌==◌, Bool, false, true, List, Option, Some, None, ◌&&◌, ◌^◌, codes, if◌then◌else◌, [], length, map, nat_lt, option_and_then, option_map, slice_get, unwrap_or}
+use Rattle.std.specs.Prelude.{ℕ, ◌==◌, Bool, true, List, Option, Some, None, ◌&&◌, ◌^◌, codes, if◌then◌else◌, [], length, map, nat_lt, option_and_then, option_map, slice_get, unwrap_or}
 use Rattle.std.specs.Char.{digit_value}
 use Rattle.std.specs.List.{after_first, before_first, list_all, position_or_len}
 use Rattle.std.specs.Str.{bytes_eq}
@@ -21,6 +21,8 @@ use Rattle.recorded_runs.specs.declared.manner.Playing.{Playing}
 use Rattle.recorded_runs.specs.declared.manner.Playing.TheVariants.{OnThreads, InTurns}
 use Rattle.recorded_runs.specs.declared.run_setting.RunSetting.{RunSetting}
 use Rattle.recorded_runs.specs.Range.{seeds_between}
+use Rattle.command_line.specs.declared.form.Form.{Form}
+use Rattle.command_line.specs.declared.form.Form.TheVariants.{Lines, Objects}
 use Rattle.command_line.specs.declared.page_request.Drawn.{Drawn}
 use Rattle.command_line.specs.declared.page_request.PageRequest.{PageRequest}
 use Rattle.command_line.specs.declared.request.Request.{Request}
@@ -45,18 +47,12 @@ pub data Asked : Type 0 where
   -- workers, whether documents are checked for being ruled out, and the least number of calls that is asked
   -- for
   ToCheck : Option Text → Conflicts → ℕ → RulingOut → ℕ → Asked
-  -- the same of each of several files, in this order
-  ToCheckEach : List Text → Conflicts → ℕ → RulingOut → ℕ → Asked
-  -- a witness of a history, in the same way, without workers
-  ToWitness : Option Text → Conflicts → RulingOut → Asked
-  -- a check of a witness against a history, of two files, with a reading of conflicts
-  ToVerify : Text → Text → Conflicts → Asked
-  -- a check of each of some files, or of standard input if there is none, which answers in objects of JSON
-  ToCheckInJson : List Text → Conflicts → ℕ → RulingOut → ℕ → Asked
-  -- a witness, or why there is none as an object of JSON
-  ToWitnessInJson : Option Text → Conflicts → RulingOut → Asked
-  -- a check of a witness which answers in an object of JSON
-  ToVerifyInJson : Text → Text → Conflicts → Asked
+  -- the same of each of some files, in this order, or of standard input if there is none, answered in a form
+  ToCheckEach : List Text → Form → Conflicts → ℕ → RulingOut → ℕ → Asked
+  -- a witness of a history, in the same way, without workers; or why there is none, in a form
+  ToWitness : Option Text → Form → Conflicts → RulingOut → Asked
+  -- a check of a witness against a history, of two files, answered in a form, with a reading of conflicts
+  ToVerify : Text → Text → Form → Conflicts → Asked
   -- the lines of a bulk's body and its reply, of two files, the calls numbered from a number on
   ToWriteBulk : Text → Text → ℕ → Asked
   -- a run with a setting, in a manner
@@ -64,10 +60,9 @@ pub data Asked : Type 0 where
   -- runs in turns from the first seed to the last, with a setting, under a disturbance, until one is found
   -- for which no order was found
   ToSearch : ℕ → ℕ → RunSetting → Disturbance → Asked
-  -- a check that is explained, with what a check has but the least number of calls, and with a page or none
-  ToExplain : Option Text → Conflicts → ℕ → RulingOut → Option AskedPage → Asked
-  -- the same, answered in an object of JSON
-  ToExplainInJson : Option Text → Conflicts → ℕ → RulingOut → Option AskedPage → Asked
+  -- a check that is explained, in a form, with what a check has but the least number of calls, and with a page or
+  -- none
+  ToExplain : Option Text → Form → Conflicts → ℕ → RulingOut → Option AskedPage → Asked
 
 -- the document that is drawn, as the code has it
 abbrev pub drawing_asked : Drawn → AskedDrawing
@@ -80,17 +75,13 @@ page_asked page = record { path = page.path.now; drawn = option_map drawing_aske
 -- the same as the code has it
 abbrev pub asked_by : Request → Asked
 asked_by (request.Check file conflicts workers ruling at_least) = ToCheck (option_map (λ f. f.now) file) conflicts workers ruling at_least
-asked_by (request.CheckEach files conflicts workers ruling at_least) = ToCheckEach (map (λ f. f.now) files.items) conflicts workers ruling at_least
-asked_by (request.Witness file conflicts ruling) = ToWitness (option_map (λ f. f.now) file) conflicts ruling
-asked_by (request.Verify history witness conflicts) = ToVerify history.now witness.now conflicts
-asked_by (request.CheckInJson files conflicts workers ruling at_least) = ToCheckInJson (map (λ f. f.now) files.items) conflicts workers ruling at_least
-asked_by (request.WitnessInJson file conflicts ruling) = ToWitnessInJson (option_map (λ f. f.now) file) conflicts ruling
-asked_by (request.VerifyInJson history witness conflicts) = ToVerifyInJson history.now witness.now conflicts
+asked_by (request.CheckEach files form conflicts workers ruling at_least) = ToCheckEach (map (λ f. f.now) files.items) form conflicts workers ruling at_least
+asked_by (request.Witness file form conflicts ruling) = ToWitness (option_map (λ f. f.now) file) form conflicts ruling
+asked_by (request.Verify history witness form conflicts) = ToVerify history.now witness.now form conflicts
 asked_by (request.Bulk body reply first) = ToWriteBulk body.now reply.now first
 asked_by (request.Run setting manner) = ToRun setting manner
 asked_by (request.Search seeds setting disturbance) = ToSearch seeds.first seeds.last setting disturbance
-asked_by (request.Explain file conflicts workers ruling page) = ToExplain (option_map (λ f. f.now) file) conflicts workers ruling (option_map page_asked page)
-asked_by (request.ExplainInJson file conflicts workers ruling page) = ToExplainInJson (option_map (λ f. f.now) file) conflicts workers ruling (option_map page_asked page)
+asked_by (request.Explain file form conflicts workers ruling page) = ToExplain (option_map (λ f. f.now) file) form conflicts workers ruling (option_map page_asked page)
 
 -- the reading of conflicts of this name, `plain` or `maybe`; the plain one if no name is given; nothing of
 -- another name
@@ -113,11 +104,10 @@ abbrev pub number_or : ℕ → Option Text → Option ℕ
 number_or other None = Some other
 number_or other (Some text) = if is_number text then Some (digits_value 10 (without_leading_plus text)) else None
 
--- true if an option without a value is given, whose text is then `true`
--- Source: profile.
-abbrev pub flag_given : Option Text → Bool
-flag_given None = false
-flag_given (Some text) = bytes_eq text (codes "true")
+-- Objects if the option `--json` is given, whose text is then `true`; otherwise Lines
+abbrev pub form_given : Option Text → Form
+form_given None = Lines
+form_given (Some text) = if bytes_eq text (codes "true") then Objects else Lines
 
 -- On if the option `--rule-out` is given, whose text is then `true`; otherwise Off
 abbrev pub ruling_given : Option Text → RulingOut
@@ -129,20 +119,20 @@ ruling_given (Some text) = if bytes_eq text (codes "true") then On else Off
 abbrev pub texts_of : Text → List Row → List Text
 texts_of name rows = unwrap_or (all_of name rows) []
 
--- a check that answers in objects if that is asked for; else a check of each of the files if there are two or more,
--- and of the one file, or of standard input, if there are fewer
+-- a check of the one file, or of standard input, if it answers in lines and there are fewer than two files; else a check
+-- of each of them
 -- Source: profile.
-abbrev pub to_check : Bool → List Text → Conflicts → ℕ → RulingOut → ℕ → Asked
-to_check in_json files conflicts workers ruling at_least =
-    if in_json then ToCheckInJson files conflicts workers ruling at_least
-    else (if nat_lt 1 (length files) then ToCheckEach files conflicts workers ruling at_least
-    else ToCheck (slice_get files 0) conflicts workers ruling at_least)
+abbrev pub to_check : Form → List Text → Conflicts → ℕ → RulingOut → ℕ → Asked
+to_check Objects files conflicts workers ruling at_least = ToCheckEach files Objects conflicts workers ruling at_least
+to_check Lines files conflicts workers ruling at_least =
+    if nat_lt (length files) 2 then ToCheck (slice_get files 0) conflicts workers ruling at_least
+    else ToCheckEach files Lines conflicts workers ruling at_least
 
 -- the check of these files that arguments ask for, by one worker if no number is given, and of 0 calls or
 -- more if no least number is; nothing if the name of the reading is unknown, or one of the numbers is none
 abbrev pub checked_of : List Text → List Row → Option Asked
 checked_of files rows =
-    option_and_then (λ conflicts. option_and_then (λ n. option_map (λ at_least. to_check (flag_given (first_of (codes "json") rows)) files conflicts n (ruling_given (first_of (codes "rule-out") rows)) at_least)
+    option_and_then (λ conflicts. option_and_then (λ n. option_map (λ at_least. to_check (form_given (first_of (codes "json") rows)) files conflicts n (ruling_given (first_of (codes "rule-out") rows)) at_least)
     (number_or 0 (first_of (codes "at-least") rows))) (number_or 1 (first_of (codes "workers") rows))) (conflicts_named (first_of (codes "conflicts") rows))
 
 -- the check that arguments ask for, of the files that they name
@@ -194,20 +184,20 @@ page_of rows = pages_of (first_of (codes "html") rows) (first_of (codes "documen
 -- the same for a check that is explained, without a least number, and with the page
 abbrev pub explain_of : List Row → Option Asked
 explain_of rows =
-    option_and_then (λ conflicts. option_and_then (λ n. option_map (λ page. (if flag_given (first_of (codes "json") rows) then ToExplainInJson else ToExplain) (first_of (codes "history") rows) conflicts n (ruling_given (first_of (codes "rule-out") rows)) page)
+    option_and_then (λ conflicts. option_and_then (λ n. option_map (λ page. ToExplain (first_of (codes "history") rows) (form_given (first_of (codes "json") rows)) conflicts n (ruling_given (first_of (codes "rule-out") rows)) page)
     (page_of rows)) (number_or 1 (first_of (codes "workers") rows))) (conflicts_named (first_of (codes "conflicts") rows))
 
 -- the witness that arguments ask for; nothing if the name of the reading is unknown
 abbrev pub witness_of : List Row → Option Asked
 witness_of rows =
-    option_map (λ conflicts. (if flag_given (first_of (codes "json") rows) then ToWitnessInJson else ToWitness) (first_of (codes "history") rows) conflicts (ruling_given (first_of (codes "rule-out") rows)))
+    option_map (λ conflicts. ToWitness (first_of (codes "history") rows) (form_given (first_of (codes "json") rows)) conflicts (ruling_given (first_of (codes "rule-out") rows)))
     (conflicts_named (first_of (codes "conflicts") rows))
 
 -- the check of a witness that arguments ask for, if both files are named; nothing if the name of the reading
 -- is unknown
 abbrev pub verify_of : List Row → Option Asked
 verify_of rows =
-    option_and_then (λ history. option_and_then (λ witness. option_map (λ conflicts. (if flag_given (first_of (codes "json") rows) then ToVerifyInJson else ToVerify) history witness conflicts) (conflicts_named (first_of (codes "conflicts") rows)))
+    option_and_then (λ history. option_and_then (λ witness. option_map (λ conflicts. ToVerify history witness (form_given (first_of (codes "json") rows)) conflicts) (conflicts_named (first_of (codes "conflicts") rows)))
     (first_of (codes "witness") rows)) (first_of (codes "history") rows)
 
 -- the lines of a bulk that arguments ask for, if both files are named; the calls are numbered from 0 if no

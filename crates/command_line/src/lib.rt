@@ -7,11 +7,13 @@
 
 mod arguments;
 mod commands;
+mod form;
 mod given;
 mod page_request;
 mod request;
 mod run_request;
 
+pub use form::Form;
 pub use page_request::{Drawn, Lines, PageRequest};
 pub use request::{Request, read_request};
 pub use run_request::{disturbance_name, fault_name};

@@ -1,10 +1,11 @@
 ghost use Rattle.std.specs.Prelude.{◌≡◌, ◌⊎◌, [], Some, None, IfOk, IfErr, OnOk, map, option_map};
 ghost use Rattle.clap.specs.Words.{FailsBy, HasKind, found_of, rows_of, subcommand_rows_of};
-ghost use Rattle.command_line.specs.Asked.{asked_by, asked_of, request_of_command, asked_on, bulk_of, check_of, checked_of, explain_of, faults_on, number_or as number_parsed, conflicts_named, flag_given, ruling_given, verify_of, witness_of};
+ghost use Rattle.command_line.specs.Asked.{asked_by, asked_of, request_of_command, asked_on, bulk_of, check_of, checked_of, explain_of, faults_on, number_or as number_parsed, conflicts_named, ruling_given, verify_of, witness_of};
 
 use crate::arguments;
 use crate::arguments::{AT_LEAST, BODY, CONFLICTS, FIRST, HISTORY, JSON, REPLY, RULE_OUT, WORKERS};
 use crate::commands::{BULK, CHECK, EXPLAIN, RUN, VERIFY, WITNESS, program};
+use crate::form::{Form, form_given};
 use crate::given::{text_given, texts_given};
 use crate::page_request::{PageRequest, page_fault, page_given};
 use crate::run_request::{asked_run, unnamed_of_run};
@@ -29,46 +30,30 @@ pub enum Request<'a> {
         ruling_out: RulingOut,
         at_least: u64,
     },
-    /// To check each of several history texts in the same way: those of the files, in this order, of which
-    /// there are two or more.
+    /// To check each of some history texts in the same way: those of the files, in this order, or that of
+    /// standard input if there are none; in lines there are two or more.
     CheckEach {
         files: Vec<&'a str>,
+        form: Form,
         conflicts: Conflicts,
         workers: u64,
         ruling_out: RulingOut,
         at_least: u64,
     },
-    /// To write the witness of a history text: that of the file, or of standard input if none is named.
+    /// To write the witness of a history text: that of the file, or of standard input if none is named; or why
+    /// there is none, in this form.
     Witness {
         file: Option<&'a str>,
+        form: Form,
         conflicts: Conflicts,
         ruling_out: RulingOut,
     },
-    /// To check the witness text of the one file against the history text of the other.
+    /// To check the witness text of the one file against the history text of the other, and to answer in this
+    /// form.
     Verify {
         history: &'a str,
         witness: &'a str,
-        conflicts: Conflicts,
-    },
-    /// To check each history text in the same way, and to answer in objects of JSON: those of the files, or of
-    /// standard input if none is named.
-    CheckInJson {
-        files: Vec<&'a str>,
-        conflicts: Conflicts,
-        workers: u64,
-        ruling_out: RulingOut,
-        at_least: u64,
-    },
-    /// To write the witness of a history text in the same way; or why there is none, as an object of JSON.
-    WitnessInJson {
-        file: Option<&'a str>,
-        conflicts: Conflicts,
-        ruling_out: RulingOut,
-    },
-    /// To check a witness text in the same way, and to answer in an object of JSON.
-    VerifyInJson {
-        history: &'a str,
-        witness: &'a str,
+        form: Form,
         conflicts: Conflicts,
     },
     /// To write the body of a bulk request and its reply, of these files, as lines of a history, its calls
@@ -84,18 +69,11 @@ pub enum Request<'a> {
     /// order is found for what they recorded, and to write that. The seed of the setting is the first of
     /// them.
     Search(Seeds, RunSetting, Disturbance),
-    /// To check a history text as `Check` does and to explain what was found; and to write the explanation as
-    /// a page, if one is asked for.
+    /// To check a history text as `Check` does and to explain what was found, in this form; and to write the
+    /// explanation as a page, if one is asked for.
     Explain {
         file: Option<&'a str>,
-        conflicts: Conflicts,
-        workers: u64,
-        ruling_out: RulingOut,
-        page: Option<PageRequest<'a>>,
-    },
-    /// To explain a history text in the same way, and to answer in an object of JSON.
-    ExplainInJson {
-        file: Option<&'a str>,
+        form: Form,
         conflicts: Conflicts,
         workers: u64,
         ruling_out: RulingOut,
@@ -124,16 +102,6 @@ fn conflicts_named(name: Option<&str>) -> Option<Conflicts>
 
 /// The text of an option without a value, if the option is given.
 pub const GIVEN: &str = "true";
-
-// Whether the option has the text that says it is given.
-fn is_given(text: Option<&str>) -> bool
-    ensures { result ≡ flag_given (option_map (λ t. t.now) text.entry) }
-{
-    match text {
-        Some(GIVEN) => true,
-        _ => false,
-    }
-}
 
 // Returns whether documents are checked for being ruled out: if the option has the text.
 fn ruling_given(text: Option<&str>) -> RulingOut
@@ -167,75 +135,48 @@ fn check_request<'a>(files: Vec<&'a str>, given: &ArgMatches<'a>) -> Option<Requ
     let workers = number_or(1, text_given(given, WORKERS))?;
     let ruling_out = ruling_given(text_given(given, RULE_OUT));
     let at_least = number_or(0, text_given(given, AT_LEAST))?;
-    if is_given(text_given(given, JSON)) {
-        return Some(Request::CheckInJson {
-            files,
+    let form = form_given(text_given(given, JSON));
+    match form {
+        Form::Lines if files.len() < 2 => Some(Request::Check {
+            file: files.first().copied(),
             conflicts,
             workers,
             ruling_out,
             at_least,
-        });
-    }
-    if files.len() > 1 {
-        return Some(Request::CheckEach {
+        }),
+        Form::Lines | Form::Objects => Some(Request::CheckEach {
             files,
+            form,
             conflicts,
             workers,
             ruling_out,
             at_least,
-        });
+        }),
     }
-    Some(Request::Check {
-        file: files.first().copied(),
-        conflicts,
-        workers,
-        ruling_out,
-        at_least,
-    })
 }
 
 // Returns the witness of a history, if a reading is named or none is.
 fn witness_request<'a>(given: &ArgMatches<'a>) -> Option<Request<'a>>
     ensures { option_map asked_by result ≡ witness_of (rows_of (found_of given.now)) }
 {
-    let file = text_given(given, HISTORY);
-    let conflicts = conflicts_named(text_given(given, CONFLICTS))?;
-    let ruling_out = ruling_given(text_given(given, RULE_OUT));
-    if is_given(text_given(given, JSON)) {
-        Some(Request::WitnessInJson {
-            file,
-            conflicts,
-            ruling_out,
-        })
-    } else {
-        Some(Request::Witness {
-            file,
-            conflicts,
-            ruling_out,
-        })
-    }
+    Some(Request::Witness {
+        file: text_given(given, HISTORY),
+        form: form_given(text_given(given, JSON)),
+        conflicts: conflicts_named(text_given(given, CONFLICTS))?,
+        ruling_out: ruling_given(text_given(given, RULE_OUT)),
+    })
 }
 
 // Returns a check of a witness, if both files are named, and a reading is named or none is.
 fn verify_request<'a>(given: &ArgMatches<'a>) -> Option<Request<'a>>
     ensures { option_map asked_by result ≡ verify_of (rows_of (found_of given.now)) }
 {
-    let history = text_given(given, HISTORY)?;
-    let witness = text_given(given, arguments::WITNESS)?;
-    let conflicts = conflicts_named(text_given(given, CONFLICTS))?;
-    if is_given(text_given(given, JSON)) {
-        Some(Request::VerifyInJson {
-            history,
-            witness,
-            conflicts,
-        })
-    } else {
-        Some(Request::Verify {
-            history,
-            witness,
-            conflicts,
-        })
-    }
+    Some(Request::Verify {
+        history: text_given(given, HISTORY)?,
+        witness: text_given(given, arguments::WITNESS)?,
+        form: form_given(text_given(given, JSON)),
+        conflicts: conflicts_named(text_given(given, CONFLICTS))?,
+    })
 }
 
 // Returns the lines of a bulk, if both files are named.
@@ -254,28 +195,14 @@ fn bulk_request<'a>(given: &ArgMatches<'a>) -> Option<Request<'a>>
 fn explain_request<'a>(given: &ArgMatches<'a>) -> Option<Request<'a>>
     ensures { option_map asked_by result ≡ explain_of (rows_of (found_of given.now)) }
 {
-    let file = text_given(given, HISTORY);
-    let conflicts = conflicts_named(text_given(given, CONFLICTS))?;
-    let workers = number_or(1, text_given(given, WORKERS))?;
-    let ruling_out = ruling_given(text_given(given, RULE_OUT));
-    let page = page_given(given)?;
-    if is_given(text_given(given, JSON)) {
-        Some(Request::ExplainInJson {
-            file,
-            conflicts,
-            workers,
-            ruling_out,
-            page,
-        })
-    } else {
-        Some(Request::Explain {
-            file,
-            conflicts,
-            workers,
-            ruling_out,
-            page,
-        })
-    }
+    Some(Request::Explain {
+        file: text_given(given, HISTORY),
+        form: form_given(text_given(given, JSON)),
+        conflicts: conflicts_named(text_given(given, CONFLICTS))?,
+        workers: number_or(1, text_given(given, WORKERS))?,
+        ruling_out: ruling_given(text_given(given, RULE_OUT)),
+        page: page_given(given)?,
+    })
 }
 
 // Returns what the command of this name asks for.

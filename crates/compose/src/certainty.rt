@@ -54,6 +54,17 @@ fn is_complete_history(history: &History, conflicts: Conflicts) -> bool
     true
 }
 
+/// Returns whether the history of the case is complete: each write has a reply, under Maybe one other than a conflict.
+/// Then no order of its calls explains it.
+pub fn is_complete_case(case: &Case) -> bool
+    // It is complete by the definition.
+    ensures complete { IsTrue result ↔ IsComplete case.now.conflicts case.now.events }
+    // If so it is not linearizable.
+    ensures none { IsTrue result → ¬ IsLinearizable case.now.conflicts case.now.events }
+{
+    is_complete_history(case.history(), case.conflicts())
+}
+
 // Returns the number of the document of a call, if the history has that call.
 fn document_of(history: &History, call: u64) -> Option<usize>
     requires { IsHistory history.now }

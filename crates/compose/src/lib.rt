@@ -24,7 +24,7 @@ mod verify_fault;
 mod workers;
 
 pub use case::Case;
-pub use certainty::certainty_of;
+pub use certainty::{certainty_of, is_complete_case};
 pub use checking::{CheckFault, Verdict, check, check_alone, is_explained};
 pub use counts::Counts;
 pub use evidence::{Certainty, Refuted, RulingOut, refutes};

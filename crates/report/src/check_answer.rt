@@ -12,6 +12,7 @@ ghost use Rattle.report.specs.Verdict.{IsAnswer, IsWitnessAnswer};
 ghost use Rattle.report.specs.Workers.{AreWorkers, HasDocument};
 
 use crate::check_options::CheckOptions;
+use crate::progress::{Progress, Stage};
 use api_lines::TextFault;
 use check_pool::{NoGate, PoolFault};
 use compose::{
@@ -142,6 +143,7 @@ pub fn history_answer<R: Threads + Wait + Sync>(
     alloc: Global,
     history: History,
     options: CheckOptions,
+    progress: &Progress,
 ) -> Result<(Answer, Finding), StreamFault>
     // There are 1 to 16 workers.
     requires workers { AreWorkers options.workers }
@@ -167,6 +169,7 @@ pub fn history_answer<R: Threads + Wait + Sync>(
             Ok((Answer::of(Status::Yes, line), Finding::Explained(proof)))
         }
         Verdict::No(case) => {
+            progress.reach(Stage::Narrowing);
             let (answer, failing) = case_answer(alloc, &case, options.ruling_out)?;
             Ok((answer, Finding::Unexplained(case, failing)))
         }

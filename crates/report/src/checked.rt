@@ -7,6 +7,7 @@ ghost use Rattle.stream_io.specs.Taken.{TakesHistory};
 
 use crate::check_answer::{history_answer, refusal};
 use crate::check_options::CheckOptions;
+use crate::progress::{Progress, Stage};
 use compose::{Counts, Finding};
 use events::HashKeys;
 use std::alloc::Global;
@@ -44,6 +45,7 @@ pub fn check_text<T: Threads + Wait + Sync, R: Read>(
     keys: HashKeys,
     reader: &mut R,
     options: CheckOptions,
+    progress: &Progress,
 ) -> Result<Checked, StreamFault>
     // There are 1 to 16 workers.
     requires workers { AreWorkers options.workers }
@@ -63,9 +65,11 @@ pub fn check_text<T: Threads + Wait + Sync, R: Read>(
     // `check_stream`.
     ensures taken { TakesHistory (R.remaining reader.old) (R.remaining reader.new) }
 {
+    progress.reach(Stage::Reading);
     match read_history(alloc, keys, reader)? {
         Ok(history) => {
-            let (answer, finding) = history_answer(rt, alloc, history, options)?;
+            progress.reach(Stage::Searching);
+            let (answer, finding) = history_answer(rt, alloc, history, options, progress)?;
             let calls = calls_explained(&finding);
             Ok(Checked { answer, calls })
         }

@@ -17,13 +17,11 @@ ghost use Rattle.report.specs.Workers.{AreWorkers, HasDocument, NamesOwnDocument
 use crate::check_answer::{case_answer, verdict_by};
 use crate::check_options::CheckOptions;
 use crate::numbered_input::read_numbered;
+use crate::progress::{Progress, Stage};
 use api_lines::TextFault;
-use compose::{
-    Case, Certainty, Counts, Failing, Finding, Offence, RulingOut, Verdict, certainty_of,
-};
-use doc_check::is_complete;
-use doc_register::Conflicts;
+use compose::{Case, Counts, Failing, Finding, Offence, RulingOut, Verdict, is_complete_case};
 use events::{Event, HashKeys, History};
+use evidence::laws::evidence_refutes;
 use result_lines::{BrokenReply, Reported};
 use std::alloc::Global;
 use std::io::Read;
@@ -84,26 +82,18 @@ pub fn calls_reported(reported: &Reported) -> Option<usize>
     }
 }
 
-// Whether each write of the history has a reply that says whether it was performed.
-fn is_settled(history: &History, conflicts: Conflicts) -> Result<bool, NoMemory> {
-    for doc in 0..history.docs() {
-        if !is_complete(&history.records(doc)?, conflicts) {
-            return Ok(false);
-        }
-    }
-    Ok(true)
-}
-
-// Whether it is proved that no order explains the history of the case: by evidence, or since it is settled,
-// of which no certainty is `Undecided`.
-fn is_proved(alloc: Global, case: &Case, failing: &Failing) -> Result<bool, NoMemory>
+// Whether it is proved that no order explains the history of the case: by evidence, or since it is complete.
+fn is_proved(case: &Case, failing: &Failing) -> bool
     requires { IfSome failing.now.evidence (Holds case.now.conflicts case.now.events) }
-    ensures { IfOk result (λ proved. IsTrue proved → ¬ IsLinearizable case.now.conflicts case.now.events) }
+    ensures { IsTrue result → ¬ IsLinearizable case.now.conflicts case.now.events }
 {
-    if failing.evidence.is_none() && !is_settled(case.history(), case.conflicts())? {
-        return Ok(false);
+    // What evidence says is known from here on, and that the case has a history.
+    evidence_refutes();
+    let _ = case.history();
+    match failing.evidence {
+        Some(_) => true,
+        None => is_complete_case(case),
     }
-    Ok(certainty_of(alloc, case, failing)? != Certainty::Undecided)
 }
 
 // Returns where the reply of the offence is.
@@ -165,7 +155,7 @@ pub fn case_details(
     let (_answer, failing) = case_answer(alloc, case, ruling_out)?;
     let details = Details {
         reported: failing_reported(&failing),
-        proved: Some(is_proved(alloc, case, &failing)?),
+        proved: Some(is_proved(case, &failing)),
         broken_reply: broken_reply_of(alloc, case.history(), failing.offence, lines)?,
     };
     Ok((details, failing))
@@ -178,6 +168,7 @@ pub fn history_details<T: Threads + Wait + Sync>(
     history: History,
     lines: &EventLines,
     options: CheckOptions,
+    progress: &Progress,
 ) -> Result<(Details, Finding), StreamFault>
     requires workers { AreWorkers options.workers }
     ensures answer { IfOk result (λ made. (input : List ℕ) → IsHistoryText input history
@@ -201,6 +192,7 @@ pub fn history_details<T: Threads + Wait + Sync>(
             Ok((details, Finding::Explained(proof)))
         }
         Verdict::No(case) => {
+            progress.reach(Stage::Narrowing);
             let (details, failing) = case_details(alloc, &case, options.ruling_out, lines)?;
             Ok((details, Finding::Unexplained(case, failing)))
         }
@@ -208,7 +200,7 @@ pub fn history_details<T: Threads + Wait + Sync>(
 }
 
 /// Returns what a check finds in the text of a reader, piece by piece: what the line of `check_stream` reports
-/// of it, and what is known beside. It writes nothing.
+/// of it, and what is known beside, with as much of what its lines say as is kept. It writes nothing.
 ///
 /// Errors, whichever comes first: `Read`, `NoMemory`, `Worker`. It waits as `check_stream` does.
 pub fn check_details<T: Threads + Wait + Sync, R: Read>(
@@ -217,6 +209,8 @@ pub fn check_details<T: Threads + Wait + Sync, R: Read>(
     keys: HashKeys,
     reader: &mut R,
     options: CheckOptions,
+    progress: &Progress,
+    kept: Kept,
 ) -> Result<Details, StreamFault>
     // There are 1 to 16 workers.
     requires workers { AreWorkers options.workers }
@@ -239,9 +233,11 @@ pub fn check_details<T: Threads + Wait + Sync, R: Read>(
     // `check_stream`.
     ensures taken { TakesHistory (R.remaining reader.old) (R.remaining reader.new) }
 {
-    match read_numbered(alloc, keys, reader, Kept::Times) {
+    progress.reach(Stage::Reading);
+    match read_numbered(alloc, keys, reader, kept) {
         Ok(Ok((history, lines))) => {
-            let (details, _) = history_details(rt, alloc, history, &lines, options)?;
+            progress.reach(Stage::Searching);
+            let (details, _) = history_details(rt, alloc, history, &lines, options, progress)?;
             Ok(details)
         }
         Ok(Err(refused)) => Ok(Details::refused(refused.fault)),

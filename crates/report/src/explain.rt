@@ -1,36 +1,19 @@
 //! Explanations: what an answer means, for people.
 
-ghost use Rattle.std.specs.Prelude.{◌≡◌, ◌≢◌, ◌++◌, ℕ, List, IfErr, IfOk, IfSome};
+ghost use Rattle.std.specs.Prelude.{◌≡◌, ◌≢◌, IfOk, IfSome};
 ghost use Rattle.evidence.specs.Evidence.{Holds};
 ghost use Rattle.events.specs.Order.{IsLinearizable};
 ghost use Rattle.compose.specs.Certainties.{Says};
-ghost use Rattle.history.specs.Text.{IsHistoryText};
-ghost use Rattle.page.specs.Pages.{IsPage};
-ghost use Rattle.stream_io.specs.Faults.{IsCheckFault, IsReadingFault};
-ghost use Rattle.stream_io.specs.Taken.{TakesHistory};
 ghost use Rattle.report.specs.aids.Earlier.{IsEarlier, grounds, grounds_by};
-ghost use Rattle.report.specs.Explained.{ExplainsInput};
 ghost use Rattle.report.specs.Findings.{HasItsEvidence};
-ghost use Rattle.report.specs.Verdict.{AnswersInput, IsAnswer};
-ghost use Rattle.report.specs.Workers.{AreWorkers, HasDocument, NamesOwnDocument};
 
-use crate::check_answer::{history_answer, refusal};
-use crate::check_options::CheckOptions;
 use crate::earlier::{Earlier, earlier_reasons};
-use crate::numbered_input::read_numbered;
 use crate::searches::Searches;
-use crate::shown_page::{PageOptions, page_shown, view_of};
 use compose::{Case, Certainty, Counts, Failing, Finding, Offence, RulingOut, certainty_of};
-use events::{HashKeys, History};
 use std::alloc::Global;
-use std::io::Read;
-use std::sync::Wait;
-use std::thread::Threads;
 use story::{
-    EventLines, Explained, Kept, Story, Subjects, Unexplained, View, explained_story,
-    failing_story, plain_text, refused_story,
+    EventLines, Explained, Story, Subjects, Unexplained, View, explained_story, failing_story,
 };
-use stream_io::{Answer, StreamFault};
 use version_pair::NoMemory;
 
 // Returns what an explanation says of a history for which no order was found: of the earlier reasons, if there are some,
@@ -154,107 +137,4 @@ pub fn story_of(
             story_of_case(alloc, case, failing, lines, view, ruling_out)
         }
     }
-}
-
-// Returns the answer to a text that was read as this history, and its explanation.
-fn explained_history<T: Threads + Wait + Sync>(
-    rt: &T,
-    alloc: Global,
-    history: History,
-    lines: &EventLines,
-    options: CheckOptions,
-    view: Option<&View<'_>>,
-) -> Result<(Answer, Story), StreamFault>
-    requires workers { AreWorkers options.workers }
-    ensures answer { IfOk result (λ made. (input : List ℕ) → IsHistoryText input history
-        → IsAnswer options.ruling_out options.conflicts input made.0.status made.0.text.items) }
-    ensures reported { IfErr result IsCheckFault }
-    ensures alone { options.workers ≡ 1 → IfErr result (λ fault. fault ≡ StreamFault.NoMemory) }
-    ensures named { IfErr result (HasDocument history) }
-{
-    let (answer, finding) = history_answer(rt, alloc, history, options)?;
-    let story = story_of(alloc, &finding, lines, view, options.ruling_out)?;
-    Ok((answer, story))
-}
-
-// Returns the line of a check of the text of a reader, and its explanation.
-fn explain<T: Threads + Wait + Sync, R: Read>(
-    rt: &T,
-    alloc: Global,
-    keys: HashKeys,
-    reader: &mut R,
-    options: CheckOptions,
-    view: Option<&View<'_>>,
-) -> Result<(Answer, Story), StreamFault>
-    requires workers { AreWorkers options.workers }
-    ensures answer { IfOk result (λ found. AnswersInput options.ruling_out options.conflicts (R.remaining reader.old) found.0.status
-        found.0.text.items) }
-    ensures reported { IfErr result IsCheckFault }
-    ensures alone { options.workers ≡ 1 → IfErr result IsReadingFault }
-    ensures named { IfErr result (NamesOwnDocument (R.remaining reader.old)) }
-    ensures taken { TakesHistory (R.remaining reader.old) (R.remaining reader.new) }
-{
-    match read_numbered(alloc, keys, reader, Kept::All) {
-        Ok(Ok((history, lines))) => { explained_history(rt, alloc, history, &lines, options, view) }
-        Ok(Err(refused)) => {
-            let answer = refusal(alloc, refused.fault)?;
-            let story = refused_story(alloc, &refused)?;
-            Ok((answer, story))
-        }
-        Err(fault) => Err(StreamFault::from(fault)),
-    }
-}
-
-// Returns the line of an answer, as text.
-fn line_of(answer: &Answer) -> &str {
-    match str::from_utf8(answer.text.as_slice()) {
-        Ok(line) => line,
-        Err(_) => "",
-    }
-}
-
-// Returns the answer with the explanation after its line.
-fn with_story(alloc: Global, answer: Answer, story: &Story) -> Result<Answer, NoMemory>
-    ensures status { IfOk result (λ made. made.status ≡ answer.status) }
-    ensures line { IfOk result (λ made. (rest : List ℕ) × (made.text.items ≡ answer.text.items ++ rest)) }
-{
-    let plain = plain_text(alloc, story)?;
-    answer.followed_by(plain.as_bytes())
-}
-
-/// Reads a history text to its end. Returns the answer that `explain_stream` writes for it; and the explanation as a
-/// page of HTML, with a drawing of the calls, if that is asked for. It writes nothing.
-///
-/// Errors, whichever comes first: `Read`, `NoMemory`, `Worker`. It waits as `check_stream` does.
-pub fn explained_answer<T: Threads + Wait + Sync, R: Read>(
-    rt: &T,
-    alloc: Global,
-    keys: HashKeys,
-    reader: &mut R,
-    options: CheckOptions,
-    shown: Option<PageOptions<'_>>,
-) -> Result<(Answer, Option<Vec<u8>>), StreamFault>
-    // There are 1 to 16 workers.
-    requires workers { AreWorkers options.workers }
-    // The text of the answer begins with a line that answers the bytes of the reader as the line of
-    // `check_stream` does.
-    ensures text { IfOk result (λ made. ExplainsInput options.ruling_out options.conflicts (R.remaining reader.old) made.0.status
-        made.0.text.items) }
-    // The page is made of markup of the crate `page`, numbers, and escaped texts.
-    ensures page { IfOk result (λ made. IfSome made.1 (λ page. IsPage page.items)) }
-    // The only errors are `Read`, `NoMemory` and `Worker`.
-    ensures reported { IfErr result IsCheckFault }
-    // With one worker, the caller's thread, the error is never `Worker`.
-    ensures alone { options.workers ≡ 1 → IfErr result IsReadingFault }
-    // A document that a `Worker` names is one of the history whose text the reader had.
-    ensures named { IfErr result (NamesOwnDocument (R.remaining reader.old)) }
-    // No bytes after the first refused line are taken but those that the last read returned, as by
-    // `check_stream`.
-    ensures taken { TakesHistory (R.remaining reader.old) (R.remaining reader.new) }
-{
-    let view = view_of(&shown);
-    let (answer, story) = explain(rt, alloc, keys, reader, options, view)?;
-    let page = page_shown(alloc, line_of(&answer), &story, options, shown)?;
-    let made = with_story(alloc, answer, &story)?;
-    Ok((made, page))
 }

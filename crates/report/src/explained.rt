@@ -4,14 +4,16 @@ ghost use Rattle.page.specs.Pages.{IsPage};
 ghost use Rattle.result_lines.specs.Objects.{line_of};
 ghost use Rattle.stream_io.specs.Faults.{IsCheckFault, IsReadingFault};
 ghost use Rattle.stream_io.specs.Taken.{TakesHistory};
-ghost use Rattle.report.specs.Details.{IsProvedOf, status_of};
+ghost use Rattle.report.specs.Details.{IsProvedOf, status_of as reported_status};
+ghost use Rattle.report.specs.Explained.{ExplainsInput};
 ghost use Rattle.report.specs.Verdict.{AnswersInput, IsAnswer};
 ghost use Rattle.report.specs.Workers.{AreWorkers, HasDocument, NamesOwnDocument};
 
 use crate::check_options::CheckOptions;
-use crate::details::{Details, history_details};
+use crate::details::{Details, history_details, status_of};
 use crate::explain::story_of;
 use crate::numbered_input::read_numbered;
+use crate::progress::{Progress, Stage};
 use crate::shown_page::{PageOptions, page_shown, view_of};
 use events::{HashKeys, History};
 use std::alloc::Global;
@@ -19,7 +21,7 @@ use std::io::Read;
 use std::sync::Wait;
 use std::thread::Threads;
 use story::{EventLines, Kept, Story, View, plain_text, refused_story};
-use stream_io::StreamFault;
+use stream_io::{Answer, StreamFault};
 
 /// What a check finds in a text, piece by piece, and what explains it.
 #[derive(Drop)]
@@ -39,18 +41,19 @@ fn explained_history<T: Threads + Wait + Sync>(
     history: History,
     lines: &EventLines,
     options: CheckOptions,
+    progress: &Progress,
     view: Option<&View<'_>>,
 ) -> Result<(Details, Story), StreamFault>
     requires workers { AreWorkers options.workers }
     ensures answer { IfOk result (λ made. (input : List ℕ) → IsHistoryText input history
-        → IsAnswer options.ruling_out options.conflicts input (status_of made.0.reported) (line_of made.0.reported)) }
+        → IsAnswer options.ruling_out options.conflicts input (reported_status made.0.reported) (line_of made.0.reported)) }
     ensures proved { IfOk result (λ made. (input : List ℕ) → IsHistoryText input history
         → IsProvedOf options.conflicts input made.0.reported made.0.proved) }
     ensures reported { IfErr result IsCheckFault }
     ensures alone { options.workers ≡ 1 → IfErr result (λ fault. fault ≡ StreamFault.NoMemory) }
     ensures named { IfErr result (HasDocument history) }
 {
-    let (details, finding) = history_details(rt, alloc, history, lines, options)?;
+    let (details, finding) = history_details(rt, alloc, history, lines, options, progress)?;
     let story = story_of(alloc, &finding, lines, view, options.ruling_out)?;
     Ok((details, story))
 }
@@ -62,11 +65,12 @@ fn explain<T: Threads + Wait + Sync, R: Read>(
     keys: HashKeys,
     reader: &mut R,
     options: CheckOptions,
+    progress: &Progress,
     view: Option<&View<'_>>,
 ) -> Result<(Details, Story), StreamFault>
     requires workers { AreWorkers options.workers }
     ensures answer { IfOk result (λ made. AnswersInput options.ruling_out options.conflicts (R.remaining reader.old)
-        (status_of made.0.reported) (line_of made.0.reported)) }
+        (reported_status made.0.reported) (line_of made.0.reported)) }
     ensures proved { IfOk result (λ made. IfSome (R.remaining reader.old)
         (λ input. IsProvedOf options.conflicts input made.0.reported made.0.proved)) }
     ensures reported { IfErr result IsCheckFault }
@@ -74,8 +78,12 @@ fn explain<T: Threads + Wait + Sync, R: Read>(
     ensures named { IfErr result (NamesOwnDocument (R.remaining reader.old)) }
     ensures taken { TakesHistory (R.remaining reader.old) (R.remaining reader.new) }
 {
+    progress.reach(Stage::Reading);
     match read_numbered(alloc, keys, reader, Kept::All) {
-        Ok(Ok((history, lines))) => { explained_history(rt, alloc, history, &lines, options, view) }
+        Ok(Ok((history, lines))) => {
+            progress.reach(Stage::Searching);
+            explained_history(rt, alloc, history, &lines, options, progress, view)
+        }
         Ok(Err(refused)) => {
             let story = refused_story(alloc, &refused)?;
             Ok((Details::refused(refused.fault), story))
@@ -94,13 +102,14 @@ pub fn explained_details<T: Threads + Wait + Sync, R: Read>(
     keys: HashKeys,
     reader: &mut R,
     options: CheckOptions,
+    progress: &Progress,
     shown: Option<PageOptions<'_>>,
 ) -> Result<ExplainedDetails, StreamFault>
     // There are 1 to 16 workers.
     requires workers { AreWorkers options.workers }
     // The line that reports it answers the bytes of the reader, as that of `check_stream` does.
     ensures answer { IfOk result (λ found. AnswersInput options.ruling_out options.conflicts (R.remaining reader.old)
-        (status_of found.details.reported) (line_of found.details.reported)) }
+        (reported_status found.details.reported) (line_of found.details.reported)) }
     // If it is said to be proved that no order explains the history, none does.
     ensures proved { IfOk result (λ found. IfSome (R.remaining reader.old)
         (λ input. IsProvedOf options.conflicts input found.details.reported found.details.proved)) }
@@ -117,7 +126,7 @@ pub fn explained_details<T: Threads + Wait + Sync, R: Read>(
     ensures taken { TakesHistory (R.remaining reader.old) (R.remaining reader.new) }
 {
     let view = view_of(&shown);
-    let (details, story) = explain(rt, alloc, keys, reader, options, view)?;
+    let (details, story) = explain(rt, alloc, keys, reader, options, progress, view)?;
     let explanation = plain_text(alloc, &story)?;
     let line = details.reported.line(alloc)?;
     let page = page_shown(alloc, line.as_str(), &story, options, shown)?;
@@ -126,4 +135,46 @@ pub fn explained_details<T: Threads + Wait + Sync, R: Read>(
         explanation,
         page,
     })
+}
+
+/// Reads a history text to its end. Returns the answer that `explain_stream` writes for it; and the explanation as a
+/// page of HTML, with a drawing of the calls, if that is asked for. It writes nothing.
+///
+/// Errors, whichever comes first: `Read`, `NoMemory`, `Worker`. It waits as `check_stream` does.
+pub fn explained_answer<T: Threads + Wait + Sync, R: Read>(
+    rt: &T,
+    alloc: Global,
+    keys: HashKeys,
+    reader: &mut R,
+    options: CheckOptions,
+    progress: &Progress,
+    shown: Option<PageOptions<'_>>,
+) -> Result<(Answer, Option<Vec<u8>>), StreamFault>
+    // There are 1 to 16 workers.
+    requires workers { AreWorkers options.workers }
+    // The text of the answer begins with a line that answers the bytes of the reader as the line of
+    // `check_stream` does.
+    ensures text { IfOk result (λ made. ExplainsInput options.ruling_out options.conflicts (R.remaining reader.old) made.0.status
+        made.0.text.items) }
+    // The page is made of markup of the crate `page`, numbers, and escaped texts.
+    ensures page { IfOk result (λ made. IfSome made.1 (λ page. IsPage page.items)) }
+    // The only errors are `Read`, `NoMemory` and `Worker`.
+    ensures reported { IfErr result IsCheckFault }
+    // With one worker, the caller's thread, the error is never `Worker`.
+    ensures alone { options.workers ≡ 1 → IfErr result IsReadingFault }
+    // A document that a `Worker` names is one of the history whose text the reader had.
+    ensures named { IfErr result (NamesOwnDocument (R.remaining reader.old)) }
+    // No bytes after the first refused line are taken but those that the last read returned, as by
+    // `check_stream`.
+    ensures taken { TakesHistory (R.remaining reader.old) (R.remaining reader.new) }
+{
+    let found = explained_details(rt, alloc, keys, reader, options, progress, shown)?;
+    let reported = &found.details.reported;
+    let mut text = reported.line(alloc)?;
+    text.push_str(found.explanation.as_str())?;
+    let answer = Answer {
+        status: status_of(reported),
+        text: text.into_bytes(),
+    };
+    Ok((answer, found.page))
 }

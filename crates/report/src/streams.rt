@@ -12,7 +12,8 @@ use crate::bulk_answer::bulk_answer;
 use crate::check_options::CheckOptions;
 use crate::checked::check_text;
 use crate::details::status_of;
-use crate::explain::explained_answer;
+use crate::explained::explained_answer;
+use crate::progress::Progress;
 use crate::verify_input::verify_reported;
 use crate::witness_answer::witness_answer;
 use compose::RulingOut;
@@ -88,12 +89,13 @@ pub fn check_stream<T: Threads + Wait + Sync, R: Read, W: Write>(
     // what the last read returned, 32,768 bytes at most.
     ensures taken { TakesHistory (R.remaining reader.old) (R.remaining reader.new) }
 {
+    let progress = Progress::new();
     let options = CheckOptions {
         workers,
         conflicts,
         ruling_out,
     };
-    let found = check_text(rt, alloc, keys, reader, options)?;
+    let found = check_text(rt, alloc, keys, reader, options, &progress)?;
     write_answer(writer, &found.answer)
 }
 
@@ -139,12 +141,13 @@ pub fn explain_stream<T: Threads + Wait + Sync, R: Read, W: Write>(
     // `check_stream`.
     ensures taken { TakesHistory (R.remaining reader.old) (R.remaining reader.new) }
 {
+    let progress = Progress::new();
     let options = CheckOptions {
         workers,
         conflicts,
         ruling_out,
     };
-    let (answer, _) = explained_answer(rt, alloc, keys, reader, options, None)?;
+    let (answer, _) = explained_answer(rt, alloc, keys, reader, options, &progress, None)?;
     write_answer(writer, &answer)
 }
 

@@ -13,6 +13,7 @@ mod calls_in_view;
 mod describing;
 mod failing;
 mod line_key;
+mod line_time;
 mod numbered_input;
 mod refused;
 mod shown_calls;
@@ -20,6 +21,7 @@ mod timeline;
 
 pub use describing::{explained_story, refused_story};
 pub use failing::failing_story;
+pub use line_time::written_at;
 pub use numbered_input::{Kept, read_numbered_from};
 pub use story_blocks::{About, EventLines, Story, View, page_of, plain_text};
 pub use story_reasons::{Explained, OrderSearch, Subjects, Unexplained};

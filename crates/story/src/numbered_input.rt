@@ -14,8 +14,10 @@ use story_blocks::EventLines;
 use version_pair::NoMemory;
 
 /// What is kept of what the lines of events say beside the events.
-#[derive(Clone, Copy, Debug, PartialEq, Eq)]
+#[derive(Clone, Copy)]
 pub enum Kept {
+    /// Nothing but the numbers of the lines.
+    Numbers,
     /// When they were written.
     Times,
     /// That, who asked, and the notes.
@@ -44,6 +46,14 @@ impl NumberedLines {
         }
     }
 
+    // Adds when the line of the next event was written, if it says so.
+    fn add_time(&mut self, line: &[u8]) -> Result<(), NoMemory> {
+        if let Some(millisecond) = self.time.number(self.alloc, line)? {
+            self.lines.add_moment(millisecond)?;
+        }
+        Ok(())
+    }
+
     // Adds who asked by the line of the next event, and the note on it.
     fn add_words(&mut self, line: &[u8]) -> Result<(), NoMemory> {
         if self.client.may_be_in(line) {
@@ -61,11 +71,13 @@ impl NumberedLines {
         if is_blank(line) {
             return self.lines.add_blank();
         }
-        if let Some(millisecond) = self.time.number(self.alloc, line)? {
-            self.lines.add_moment(millisecond)?;
-        }
-        if self.kept == Kept::All {
-            self.add_words(line)?;
+        match self.kept {
+            Kept::Numbers => {}
+            Kept::Times => self.add_time(line)?,
+            Kept::All => {
+                self.add_time(line)?;
+                self.add_words(line)?;
+            }
         }
         self.lines.add_event();
         Ok(())

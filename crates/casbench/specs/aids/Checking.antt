@@ -7,7 +7,7 @@ use Rattle.report.specs.Verdict.{AnswersInput}
 use Rattle.stream_io.specs.Faults.{IsCheckFault, IsReadingFault}
 use Rattle.stream_io.specs.declared.stream_fault.StreamFault.{StreamFault}
 use Rattle.casbench.specs.Each.{IsInForm}
-use Rattle.casbench.specs.declared.form.Form.{Form}
+use Rattle.command_line.specs.declared.form.Form.{Form}
 use Rattle.casbench.specs.declared.named_text.NamedText.{NamedText}
 use Rattle.casbench.specs.declared.named_text.Written.{Written}
 

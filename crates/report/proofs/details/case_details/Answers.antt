@@ -11,5 +11,5 @@ returns-clause-answers c = λ input is.
 pub returns-clause-proved : goal.returns-clause-proved
 returns-clause-proved c = λ input is.
     let failing = c.in_ok-_answer.failing in
-    proved_reported c.args.case.now.conflicts c.args.case.now.events input failing.offence failing.evidence c.failing_reported.result c.in_ok-is_proved.field-0
-    c.failing_reported.ensures is c.in_ok-is_proved.ensures
+    proved_reported c.args.case.now.conflicts c.args.case.now.events input failing.offence failing.evidence c.failing_reported.result c.is_proved.result
+    c.failing_reported.ensures is c.is_proved.ensures

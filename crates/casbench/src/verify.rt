@@ -1,0 +1,94 @@
+ghost use Rattle.std.specs.Prelude.{◌≢◌, IfErr, IfOk, IsErrOf};
+ghost use Rattle.std.specs.Io.KnownBytes.{Keeps};
+ghost use Rattle.casbench.specs.Objects.{VerifiesInForm};
+ghost use Rattle.stream_io.specs.Faults.{IsStreamFault};
+ghost use Rattle.stream_io.specs.Written.{HasAnswer, HasPrefix};
+
+use crate::files::open_both;
+use crate::objects::verify_in_json;
+use crate::outcome::Outcome;
+use command_line::Form;
+use doc_register::Conflicts;
+use events::HashKeys;
+use report::{Status, StreamFault, verify_stream};
+use std::alloc::Global;
+use std::io::{Read, Write};
+use std::rt::Files;
+use std::time::Clock;
+
+// Checks the witness text of one reader against the history text of another, whose files have these names.
+fn verify_texts<C: Clock, R: Read, Q: Read, W: Write>(
+    clock: &C,
+    alloc: Global,
+    keys: HashKeys,
+    name: &str,
+    witness_name: &str,
+    history: &mut R,
+    witness: &mut Q,
+    writer: &mut W,
+    form: Form,
+    conflicts: Conflicts,
+) -> Result<Status, StreamFault>
+    ensures answered { IfOk result (λ status. HasAnswer (VerifiesInForm form name.now conflicts (R.remaining history.old) (Q.remaining witness.old) status)
+        (W.contents writer.old) (W.contents writer.new)) }
+    ensures cut_off { IsErrOf result StreamFault.Write
+        → HasPrefix (VerifiesInForm form name.now conflicts (R.remaining history.old) (Q.remaining witness.old))
+        (W.contents writer.old) (W.contents writer.new) }
+    ensures kept { IfErr result (λ fault. fault ≢ StreamFault.Write
+        → Keeps (W.contents writer.old) (W.contents writer.new)) }
+    ensures reported { IfErr result IsStreamFault }
+{
+    match form {
+        Form::Lines => verify_stream(alloc, keys, history, witness, writer, conflicts),
+        Form::Objects => {
+            verify_in_json(
+                clock,
+                alloc,
+                keys,
+                name,
+                witness_name,
+                history,
+                witness,
+                writer,
+                conflicts,
+            )
+        }
+    }
+}
+
+/// Checks the witness text of one file against the history text of another, as `report::verify_stream` does, and
+/// answers in this form. The file `-` is the input.
+///
+/// Errors: `Read` if a file can't be opened; then those of `report::verify_stream`.
+pub fn verify_files<R: Files + Eprint + Clock, I: Read + Drop, W: Write>(
+    rt: &R,
+    alloc: Global,
+    keys: HashKeys,
+    history: &str,
+    witness: &str,
+    input: I,
+    writer: &mut W,
+    form: Form,
+    conflicts: Conflicts,
+) -> Result<Outcome, StreamFault>
+    // After any error but `Write` the writer holds what it held.
+    ensures kept { IfErr result (λ fault. fault ≢ StreamFault.Write
+        → Keeps (W.contents writer.old) (W.contents writer.new)) }
+    // The only errors are `Read`, `Write` and `NoMemory`.
+    ensures reported { IfErr result IsStreamFault }
+{
+    let (mut first, mut second) = open_both(rt, history, witness, input)?;
+    let status = verify_texts(
+        rt,
+        alloc,
+        keys,
+        history,
+        witness,
+        &mut first,
+        &mut second,
+        writer,
+        form,
+        conflicts,
+    )?;
+    Ok(Outcome::Answered(status))
+}

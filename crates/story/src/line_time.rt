@@ -1,0 +1,15 @@
+use crate::line_key::LineKey;
+use jiff::Timestamp;
+use std::alloc::Global;
+use version_pair::NoMemory;
+
+/// Returns when a line was written, in UTC to the millisecond, if it says so. Nothing is promised of it.
+pub fn written_at(alloc: Global, line: &[u8]) -> Result<Option<String>, NoMemory> {
+    let Some(millisecond) = LineKey::time().number(alloc, line)? else {
+        return Ok(None);
+    };
+    match Timestamp::from_millisecond(millisecond) {
+        Ok(time) => Ok(Some(format!(in alloc; "{time:.3}")?)),
+        Err(_) => Ok(None),
+    }
+}
