@@ -26,7 +26,7 @@ mod search_reporter;
 mod stopwatch;
 mod terminal;
 mod verify;
-mod witness;
+mod witness_file;
 
 use clap::error::ErrorKind;
 use command_line::{Request, read_request};

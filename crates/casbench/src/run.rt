@@ -12,7 +12,7 @@ use crate::outcome::Outcome;
 use crate::progress_line::ProgressLine;
 use crate::search_reporter::SearchReporter;
 use crate::verify::verify_files;
-use crate::witness::witness_file;
+use crate::witness_file::witness_file;
 use command_line::Request;
 use disturbances::DisturbedGroup;
 use doc_register::Conflicts;
