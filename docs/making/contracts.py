@@ -21,7 +21,7 @@ PROGRAM_PARTS = (
     "page_file",
     "run",
     "verify",
-    "witness",
+    "witness_file",
 )
 
 # The beginnings of a function, a clause and a ghost item.
