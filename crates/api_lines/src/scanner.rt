@@ -155,29 +155,29 @@ fn digits(bytes: &[u8]) -> Option<(u64, &[u8])>
     Some((number, &bytes[at..]))
 }
 
-/// Where the remaining bytes are with respect to commas.
+/// Whether a comma, a value or neither comes before the remaining bytes.
 #[derive(Clone, Copy)]
-pub enum Place {
+pub enum CommaState {
     Fresh,
     AfterComma,
     AfterValue,
 }
 
-impl Place {
+impl CommaState {
     ghost use Rattle.api_lines.specs.aids.Scanning.{place_of};
 
     #[inline(always)]
     fn may_begin(self) -> bool
         ensures { result ≡ begins (place_of self) }
     {
-        matches!(self, Place::Fresh | Place::AfterComma)
+        matches!(self, CommaState::Fresh | CommaState::AfterComma)
     }
 
     #[inline(always)]
     fn may_close(self) -> bool
         ensures { result ≡ closes (place_of self) }
     {
-        matches!(self, Place::Fresh | Place::AfterValue)
+        matches!(self, CommaState::Fresh | CommaState::AfterValue)
     }
 }
 
@@ -185,7 +185,7 @@ impl Place {
 #[derive(Drop)]
 pub struct Scanner<'a> {
     rest: &'a [u8],
-    place: Place,
+    place: CommaState,
 }
 
 impl<'a> Scanner<'a> {
@@ -198,7 +198,7 @@ impl<'a> Scanner<'a> {
     {
         Scanner {
             rest: after_spaces(line),
-            place: Place::Fresh,
+            place: CommaState::Fresh,
         }
     }
 
@@ -216,7 +216,7 @@ impl<'a> Scanner<'a> {
         ensures { tokens_left self.new ≡ tokens_at fresh rest.now }
     {
         self.rest = after_spaces(rest);
-        self.place = Place::Fresh;
+        self.place = CommaState::Fresh;
     }
 
     // Moves to these bytes after a value, and passes the comma if it is next.
@@ -227,11 +227,11 @@ impl<'a> Scanner<'a> {
         match after(rest, b',') {
             Some(next) => {
                 self.rest = after_spaces(next);
-                self.place = Place::AfterComma;
+                self.place = CommaState::AfterComma;
             }
             None => {
                 self.rest = rest;
-                self.place = Place::AfterValue;
+                self.place = CommaState::AfterValue;
             }
         }
     }

@@ -18,8 +18,8 @@ use crate::stopwatch::Stopwatch;
 use command_line::Form;
 use events::HashKeys;
 use report::{
-    CheckOptions, Kept, Progress, Status, StreamFault, calls_reported, check_details, check_text,
-    status_of,
+    CheckOptions, CheckProgress, Kept, Status, StreamFault, calls_reported, check_details,
+    check_text, status_of,
 };
 use std::alloc::{AllocError, Global};
 use std::io::{Read, Seek, Write};
@@ -48,7 +48,7 @@ fn check_in_line<T: Threads + Wait + Sync, S: Read>(
     name: &str,
     source: &mut S,
     options: CheckOptions,
-    progress: &Progress,
+    progress: &CheckProgress,
 ) -> Result<Written, StreamFault>
     requires workers { AreWorkers options.workers }
     ensures answered { IfOk result (IsWrittenOf options.ruling_out options.conflicts Form.Lines name.now (S.remaining source.old)) }
@@ -73,7 +73,7 @@ fn check_in_object<F: Clock, T: Threads + Wait + Sync, S: Read + Seek>(
     source: &mut S,
     kept: Kept,
     options: CheckOptions,
-    progress: &Progress,
+    progress: &CheckProgress,
 ) -> Result<Written, StreamFault>
     requires workers { AreWorkers options.workers }
     ensures answered { IfOk result (IsWrittenOf options.ruling_out options.conflicts Form.Objects name.now (S.remaining source.old)) }
@@ -100,7 +100,7 @@ fn check_in_form<F: Clock, T: Threads + Wait + Sync, S: Read + Seek>(
     source: &mut S,
     kept: Kept,
     options: CheckOptions,
-    progress: &Progress,
+    progress: &CheckProgress,
     form: Form,
 ) -> Result<Written, StreamFault>
     requires workers { AreWorkers options.workers }
@@ -139,7 +139,7 @@ fn check_named<F: Clock, T: Threads + Wait + Sync, S: Read + Seek>(
     keys: HashKeys,
     text: &mut NamedText<'_, S>,
     options: CheckOptions,
-    progress: &Progress,
+    progress: &CheckProgress,
     form: Form,
     beside: usize,
 )
@@ -172,7 +172,7 @@ fn check_all<F: Clock + Sync, T: Threads + Wait + Sync, S: Read + Seek + Send>(
     keys: HashKeys,
     texts: &mut [NamedText<'_, S>],
     options: CheckOptions,
-    progress: &Progress,
+    progress: &CheckProgress,
     form: Form,
 )
     requires workers { AreWorkers options.workers }
@@ -215,7 +215,7 @@ fn checked_texts<F: Clock + Sync, T: Threads + Wait + Sync, S: Read + Seek + Sen
     keys: HashKeys,
     texts: &mut [NamedText<'_, S>],
     options: CheckOptions,
-    progress: &Progress,
+    progress: &CheckProgress,
     at_least: u64,
     form: Form,
 ) -> Result<(Outcome, Vec<u8>), StreamFault>

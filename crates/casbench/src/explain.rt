@@ -17,8 +17,8 @@ use crate::progress_line::ProgressLine;
 use command_line::{Form, PageRequest};
 use events::HashKeys;
 use report::{
-    Answer, CheckOptions, PageOptions, Progress, Status, StreamFault, View, explained_answer,
-    write_answer,
+    AnswerText, CheckOptions, CheckProgress, PageOptions, Status, StreamFault, View,
+    explained_answer, write_answer,
 };
 use std::alloc::Global;
 use std::io::{Read, Write};
@@ -48,10 +48,10 @@ fn explained<F: Clock, T: Threads + Wait + Sync, R: Read>(
     name: &str,
     history: &mut R,
     options: CheckOptions,
-    progress: &Progress,
+    progress: &CheckProgress,
     shown: Option<PageOptions<'_>>,
     form: Form,
-) -> Result<(Answer, Option<Vec<u8>>), StreamFault>
+) -> Result<(AnswerText, Option<Vec<u8>>), StreamFault>
     requires workers { AreWorkers options.workers }
     ensures explained { IfOk result (λ made. ExplainsInForm form name.now
         options.ruling_out options.conflicts (R.remaining history.old) made.0.status made.0.text.items) }
@@ -72,7 +72,7 @@ fn write_with_page<F: Files + Eprint, W: Write>(
     rt: &F,
     alloc: Global,
     writer: &mut W,
-    answer: &Answer,
+    answer: &AnswerText,
     path: &str,
     page: &[u8],
 ) -> Result<Status, StreamFault>

@@ -17,8 +17,8 @@ use crate::stopwatch::Stopwatch;
 use doc_register::Conflicts;
 use events::HashKeys;
 use report::{
-    Answer, CheckOptions, Details, ExplainedDetails, PageOptions, Progress, RulingOut, Status,
-    StreamFault, Witnessed, explained_details, status_of, verify_reported, witness_details,
+    AnswerText, CheckOptions, CheckProgress, Details, ExplainedDetails, PageOptions, RulingOut,
+    Status, StreamFault, Witnessed, explained_details, status_of, verify_reported, witness_details,
     write_answer,
 };
 use result_lines::{Facts, Reported, object_line};
@@ -57,20 +57,20 @@ fn witnessed_answer(
     name: &str,
     found: Witnessed,
     milliseconds: Option<u64>,
-) -> Result<Answer, AllocError>
+) -> Result<AnswerText, AllocError>
     ensures { IfOk result (λ answer. (ruling : Ruling) (conflicts : Reading) (input : List ℕ)
         → IsWitnessedBy ruling conflicts input found
         → IsWitnessInJson name.now ruling conflicts input answer.status answer.text.items) }
 {
     match found {
-        Witnessed::Text(text) => Ok(Answer {
+        Witnessed::Text(text) => Ok(AnswerText {
             status: Status::Yes,
             text,
         }),
         Witnessed::Answered(details) => {
             let status = status_of(&details.reported);
             let text = details_object(alloc, name, details, None, milliseconds)?;
-            Ok(Answer { status, text })
+            Ok(AnswerText { status, text })
         }
     }
 }
@@ -178,7 +178,7 @@ pub fn verify_in_json<C: Clock, R: Read, Q: Read, W: Write>(
         &reported,
         stopwatch.milliseconds(clock),
     )?;
-    write_answer(writer, &Answer { status, text })
+    write_answer(writer, &AnswerText { status, text })
 }
 
 /// Returns the object of what a check finds in the text of a reader, as `report::explained_details` does, with its
@@ -191,9 +191,9 @@ pub fn explained_object<C: Clock, T: Threads + Wait + Sync, R: Read>(
     name: &str,
     history: &mut R,
     options: CheckOptions,
-    progress: &Progress,
+    progress: &CheckProgress,
     shown: Option<PageOptions<'_>>,
-) -> Result<(Answer, Option<Vec<u8>>), StreamFault>
+) -> Result<(AnswerText, Option<Vec<u8>>), StreamFault>
     // There are 1 to 16 workers.
     requires workers { AreWorkers options.workers }
     // The object is that of a line which answers the bytes of the reader.
@@ -213,5 +213,5 @@ pub fn explained_object<C: Clock, T: Threads + Wait + Sync, R: Read>(
     let milliseconds = stopwatch.milliseconds(clock);
     let explanation = Some(explanation.as_str());
     let text = details_object(alloc, name, details, explanation, milliseconds)?;
-    Ok((Answer { status, text }, page))
+    Ok((AnswerText { status, text }, page))
 }

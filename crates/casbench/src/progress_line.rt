@@ -1,5 +1,5 @@
 use crate::stopwatch::Stopwatch;
-use report::{Progress, Stage};
+use report::{CheckProgress, CheckStage};
 use std::sync::{Mutex, Wait};
 use std::thread;
 use std::time::{Clock, Duration};
@@ -16,24 +16,24 @@ const CLEARED: &str = "\r\u{1b}[K";
 // What stands on the line: the stage of the check, and for how many seconds it has gone on.
 #[derive(Clone, Copy, PartialEq, Eq)]
 struct Shown {
-    stage: Stage,
+    stage: CheckStage,
     seconds: u64,
 }
 
 /// The line of a terminal, on standard error, that says what a check is doing.
 #[derive(Drop)]
 pub struct ProgressLine {
-    progress: Progress,
+    progress: CheckProgress,
     shown: Mutex<Option<Shown>>,
 }
 
 // What is said of a check at this stage, if something is.
-fn said_of(stage: Stage) -> Option<&'static str> {
+fn said_of(stage: CheckStage) -> Option<&'static str> {
     match stage {
-        Stage::Reading => Some("reading"),
-        Stage::Searching => Some("searching for an order"),
-        Stage::Narrowing => Some("looking for the broken reply"),
-        Stage::Opening | Stage::Ended => None,
+        CheckStage::Reading => Some("reading"),
+        CheckStage::Searching => Some("searching for an order"),
+        CheckStage::Narrowing => Some("looking for the broken reply"),
+        CheckStage::Opening | CheckStage::Ended => None,
     }
 }
 
@@ -41,13 +41,13 @@ impl ProgressLine {
     /// Returns the line of a check that hasn't begun. Nothing stands on it.
     pub fn new() -> ProgressLine {
         ProgressLine {
-            progress: Progress::new(),
+            progress: CheckProgress::new(),
             shown: Mutex::new(None),
         }
     }
 
     /// Returns where the check notes what it is doing.
-    pub fn progress(&self) -> &Progress {
+    pub fn progress(&self) -> &CheckProgress {
         &self.progress
     }
 
@@ -64,7 +64,7 @@ impl ProgressLine {
                 *shown = next;
             }
         }
-        stage != Stage::Ended
+        stage != CheckStage::Ended
     }
 
     /// Says what the check is doing, from two seconds after this is called until the line is ended. Standard error is
@@ -81,7 +81,7 @@ impl ProgressLine {
 
     /// Clears the line, on which nothing is said from now on: to be called before anything else is written.
     pub fn end<R: Eprint, T: Wait>(&self, rt: &R, threads: &T) {
-        self.progress.reach(Stage::Ended);
+        self.progress.reach(CheckStage::Ended);
         let mut shown = self.shown.lock(threads);
         if shown.is_some() {
             let _ = eprint!(rt; "{CLEARED}");

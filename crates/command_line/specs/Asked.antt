@@ -1,5 +1,5 @@
 -- What the arguments of the command line ask for. `Request` is what the code made of them.
-use Rattle.std.specs.Prelude.{ℕ, ◌==◌, Bool, true, List, Option, Some, None, ◌&&◌, ◌^◌, codes, if◌then◌else◌, [], length, map, nat_lt, option_and_then, option_map, slice_get, unwrap_or}
+use Rattle.std.specs.Prelude.{ℕ, ◌==◌, Bool, true, List, Option, Some, None, ◌&&◌, ◌^◌, codes, if◌then◌else◌, [], ◌∷◌, length, map, nat_lt, option_and_then, option_map, slice_get, unwrap_or}
 use Rattle.std.specs.Char.{digit_value}
 use Rattle.std.specs.List.{after_first, before_first, list_all, position_or_len}
 use Rattle.std.specs.Str.{bytes_eq}
@@ -321,123 +321,94 @@ needed_rule name = record (file_rule name) { required = true }
 abbrev pub option_rule : Text → Rule
 option_rule name = record (file_rule name) { long = Some name }
 
--- `--first N`, N below 2^64
+-- the same, which is required
 -- Source: profile.
-abbrev pub first_rule : Rule
-first_rule = record (option_rule (codes "first")) { parser = Some (parser.Unsigned 0 18446744073709551615) }
+abbrev pub needed_option_rule : Text → Rule
+needed_option_rule name = record (option_rule name) { required = true }
 
--- `--workers N`, N from 1 to 16
+-- an option with a number from the one to the other, of this name, which may be left out
 -- Source: profile.
-abbrev pub workers_rule : Rule
-workers_rule = record (option_rule (codes "workers")) { parser = Some (parser.Unsigned 1 16) }
+abbrev pub number_rule : Text → ℕ → ℕ → Rule
+number_rule name least most = record (option_rule name) { parser = Some (parser.Unsigned least most) }
 
--- `--at-least CALLS`, CALLS below 2^64
+-- the same, which is required
 -- Source: profile.
-abbrev pub at_least_rule : Rule
-at_least_rule = record (option_rule (codes "at-least")) { parser = Some (parser.Unsigned 0 18446744073709551615) }
+abbrev pub needed_number_rule : Text → ℕ → ℕ → Rule
+needed_number_rule name least most = record (number_rule name least most) { required = true }
 
--- `--rule-out`, without a value
+-- an option without a value, of this name, which may be left out
 -- Source: profile.
-abbrev pub rule_out_argument : Rule
-rule_out_argument = record (new_rule (codes "rule-out")) { long = Some (codes "rule-out"); action = Some SetTrue }
+abbrev pub switch_rule : Text → Rule
+switch_rule name = record (new_rule name) { long = Some name; action = Some SetTrue }
 
--- `--json`, without a value
+-- a command with these arguments after its own, in this order
 -- Source: profile.
-abbrev pub json_rule : Rule
-json_rule = record (new_rule (codes "json")) { long = Some (codes "json"); action = Some SetTrue }
+abbrev pub with_rules : App → List Rule → App
+with_rules command [] = command
+with_rules command (r ∷ rs) = with_rules (with_rule command r) rs
 
 -- a required number below 2^32, of this name
 -- Source: profile.
 abbrev pub small_rule : Text → Rule
-small_rule name = record (needed_rule name) { long = Some name; parser = Some (parser.Unsigned 0 4294967295) }
+small_rule name = needed_number_rule name 0 4294967295
 
--- `--seed S`, S below 2^64, which may be left out
--- Source: profile.
-abbrev pub seed_rule : Rule
-seed_rule = record (option_rule (codes "seed")) { parser = Some (parser.Unsigned 0 18446744073709551615) }
-
--- `--fault F`, a text, which is required
--- Source: profile.
-abbrev pub fault_rule : Rule
-fault_rule = record (needed_rule (codes "fault")) { long = Some (codes "fault") }
-
--- `--in-turns`, without a value, which may be left out
--- Source: profile.
-abbrev pub in_turns_rule : Rule
-in_turns_rule = record (new_rule (codes "in-turns")) { long = Some (codes "in-turns"); action = Some SetTrue }
-
--- a command with what each check takes: an argument of what is checked, `--conflicts`, `--workers`, from 1 to
--- 16, and `--rule-out`
--- Source: profile.
-abbrev pub searched_command : App → Rule → App
-searched_command command texts = with_rule (with_rule (with_rule (with_rule command texts) (option_rule (codes "conflicts"))) workers_rule) rule_out_argument
-
--- the command `check`, which takes histories, which may be left out, what each check takes, `--at-least` and
--- `--json`
+-- the command `check`, which takes histories, which may be left out, `--conflicts`, `--workers`, from 1 to 16,
+-- `--rule-out`, `--at-least`, below 2^64, and `--json`
 -- Source: profile.
 abbrev pub check_command : App
-check_command = with_rule (with_rule (searched_command (new_app (codes "check")) (files_rule (codes "history"))) at_least_rule) json_rule
+check_command =
+    with_rules (new_app (codes "check"))
+    (files_rule (codes "history") ∷ option_rule (codes "conflicts") ∷ number_rule (codes "workers") 1 16 ∷ switch_rule (codes "rule-out") ∷ number_rule (codes "at-least") 0 18446744073709551615 ∷ switch_rule (codes "json") ∷ [])
 
--- the command `explain` with a history, which may be left out, what each check takes, and the options of a page:
--- `--html`, `--document` and `--lines`
--- Source: profile.
-abbrev pub page_line : App
-page_line =
-    with_rule (with_rule (with_rule (searched_command (new_app (codes "explain")) (file_rule (codes "history"))) (option_rule (codes "html"))) (option_rule (codes "document"))) (option_rule (codes "lines"))
-
--- the command `explain`, which takes these and `--json`
+-- the command `explain`, which takes a history, which may be left out, `--conflicts`, `--workers`, from 1 to 16,
+-- `--rule-out`, the options of a page, which are `--html`, `--document` and `--lines`, and `--json`
 -- Source: profile.
 abbrev pub explain_command : App
-explain_command = with_rule page_line json_rule
+explain_command =
+    with_rules (new_app (codes "explain"))
+    (file_rule (codes "history") ∷ option_rule (codes "conflicts") ∷ number_rule (codes "workers") 1 16 ∷ switch_rule (codes "rule-out") ∷ option_rule (codes "html") ∷ option_rule (codes "document")
+    ∷ option_rule (codes "lines") ∷ switch_rule (codes "json") ∷ [])
 
 -- the command `witness`, which takes a history, which may be left out, `--conflicts`, `--rule-out` and `--json`
 -- Source: profile.
 abbrev pub witness_command : App
-witness_command =
-    with_rule (with_rule (with_rule (with_rule (new_app (codes "witness")) (file_rule (codes "history"))) (option_rule (codes "conflicts"))) rule_out_argument) json_rule
+witness_command = with_rules (new_app (codes "witness")) (file_rule (codes "history") ∷ option_rule (codes "conflicts") ∷ switch_rule (codes "rule-out") ∷ switch_rule (codes "json") ∷ [])
 
 -- the command `verify`, which takes a history and a witness, both required, `--conflicts` and `--json`
 -- Source: profile.
 abbrev pub verify_command : App
-verify_command =
-    with_rule (with_rule (with_rule (with_rule (new_app (codes "verify")) (needed_rule (codes "history"))) (needed_rule (codes "witness"))) (option_rule (codes "conflicts"))) json_rule
+verify_command = with_rules (new_app (codes "verify")) (needed_rule (codes "history") ∷ needed_rule (codes "witness") ∷ option_rule (codes "conflicts") ∷ switch_rule (codes "json") ∷ [])
 
--- the command `bulk`, which takes a body and a reply, both required, and `--first`
+-- the command `bulk`, which takes a body and a reply, both required, and `--first`, below 2^64
 -- Source: profile.
 abbrev pub bulk_command : App
-bulk_command = with_rule (with_rule (with_rule (new_app (codes "bulk")) (needed_rule (codes "body"))) (needed_rule (codes "reply"))) first_rule
+bulk_command = with_rules (new_app (codes "bulk")) (needed_rule (codes "body") ∷ needed_rule (codes "reply") ∷ number_rule (codes "first") 0 18446744073709551615 ∷ [])
 
--- the command `run` with the arguments that say what the clients do: `--seed`, `--clients` and `--calls`
--- Source: profile.
-abbrev pub plan_line : App
-plan_line = with_rule (with_rule (with_rule (new_app (codes "run")) seed_rule) (small_rule (codes "clients"))) (small_rule (codes "calls"))
-
--- the same with those of the group: `--docs`, `--copies` and `--fault`
--- Source: profile.
-abbrev pub group_line : App
-group_line = with_rule (with_rule (with_rule plan_line (small_rule (codes "docs"))) (small_rule (codes "copies"))) fault_rule
-
--- the same with those that say how it goes: `--in-turns` and `--disturb`
--- Source: profile.
-abbrev pub manner_line : App
-manner_line = with_rule (with_rule group_line in_turns_rule) (option_rule (codes "disturb"))
-
--- the same with those of the seeds that are tried: `--until` and `--seeds`
+-- The command `run`, which takes what the clients do: `--seed`, below 2^64, which may be left out, `--clients` and
+-- `--calls`; what the group is: `--docs`, `--copies` and `--fault`; how the run goes: `--in-turns` and `--disturb`; and
+-- which seeds are tried: `--until` and `--seeds`.
 -- Source: profile.
 abbrev pub run_command : App
-run_command = with_rule (with_rule manner_line (option_rule (codes "until"))) (option_rule (codes "seeds"))
+run_command =
+    with_rules (new_app (codes "run"))
+    (number_rule (codes "seed") 0 18446744073709551615 ∷ small_rule (codes "clients") ∷ small_rule (codes "calls") ∷ small_rule (codes "docs") ∷ small_rule (codes "copies") ∷ needed_option_rule (codes "fault")
+    ∷ switch_rule (codes "in-turns") ∷ option_rule (codes "disturb") ∷ option_rule (codes "until") ∷ option_rule (codes "seeds") ∷ [])
 
 -- `casbench`, which has a version
 -- Source: profile.
 abbrev pub named_line : App
 named_line = on_top (λ s. record s { has_version = true }) (new_app (codes "casbench"))
 
+-- a program with these commands after its own, in this order
+-- Source: profile.
+abbrev pub with_commands : App → List App → App
+with_commands program [] = program
+with_commands program (c ∷ cs) = with_commands (with_subcommand program c.top) cs
+
 -- `casbench` with its six commands
 -- Source: profile.
 abbrev pub command_line : App
-command_line =
-    with_subcommand (with_subcommand (with_subcommand (with_subcommand (with_subcommand (with_subcommand named_line check_command.top) witness_command.top) verify_command.top) bulk_command.top)
-    run_command.top) explain_command.top
+command_line = with_commands named_line (check_command ∷ witness_command ∷ verify_command ∷ bulk_command ∷ run_command ∷ explain_command ∷ [])
 
 -- what the arguments ask for, the first of which is the program's name
 -- Source: profile.

@@ -2,25 +2,26 @@ ghost use Rattle.std.specs.Prelude.{◌≡◌, IfOk, map, option_map};
 ghost use Rattle.clap.specs.Words.{first_of, found_of, rows_of};
 ghost use Rattle.command_line.specs.Asked.{texts_of};
 
+use crate::argument::Argument;
 use clap::ArgMatches;
 use std::alloc::{AllocError, Global};
 
-/// Returns the text that is given for the argument of this name, if one is.
-pub fn text_given<'a>(given: &ArgMatches<'a>, argument: &str) -> Option<&'a str>
-    ensures { option_map (λ t. t.now) result ≡ first_of argument.now (rows_of (found_of given.now)) }
+/// Returns the text that is given for the argument, if one is.
+pub fn text_given<'a>(given: &ArgMatches<'a>, argument: Argument<'_>) -> Option<&'a str>
+    ensures { option_map (λ t. t.now) result ≡ first_of argument.entry.id.now (rows_of (found_of given.now)) }
 {
-    given.get_str(argument)
+    given.get_str(argument.id)
 }
 
-/// Returns the texts that are given for the argument of this name, in their order.
+/// Returns the texts that are given for the argument, in their order.
 pub fn texts_given<'a>(
     alloc: Global,
     given: &ArgMatches<'a>,
-    argument: &str,
+    argument: Argument<'_>,
 ) -> Result<Vec<&'a str>, AllocError>
-    ensures { IfOk result (λ texts. map (λ t. t.now) texts.items ≡ texts_of argument.now (rows_of (found_of given.now))) }
+    ensures { IfOk result (λ texts. map (λ t. t.now) texts.items ≡ texts_of argument.entry.id.now (rows_of (found_of given.now))) }
 {
-    match given.get_strs(argument) {
+    match given.get_strs(argument.id) {
         Some(texts) => Vec::from_slice(alloc, texts),
         None => Ok(Vec::new(alloc)),
     }

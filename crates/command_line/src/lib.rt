@@ -5,6 +5,7 @@
 //! ```
 #![tactic(auto)]
 
+mod argument;
 mod arguments;
 mod commands;
 mod form;

@@ -1,11 +1,12 @@
--- Complete histories by their events, and complete documents without an order.
-use Rattle.std.proofs.Common.{ℕ, ◌≡◌, ◌≢◌, ◌<◌, List, length, refl, sym, ap, subst, ◌∙◌, Bool, false, true≢false, Option, Some, None, option_map, slice_get}
-use Rattle.std.specs.Prelude.{◌↔◌, IfSome, IsTrue, position}
+-- Complete histories by their calls, and complete documents without an order.
+use Rattle.std.proofs.Common.{ℕ, ◌≡◌, ◌≢◌, ◌<◌, ◌+◌, arith, inl, inr, List, length, refl, sym, ap, subst, ◌∙◌, Bool, false, true≢false, Option, Some, None, option_map, slice_get}
+use Rattle.std.specs.Prelude.{◌↔◌, IfSome, IsTrue, option_and_then, position}
 use Rattle.evidence.specs.declared.refuted.Refuted.{Refuted}
 use Rattle.evidence.specs.declared.refuted.Refuted.TheVariants.{RuledOut}
 use Rattle.evidence.specs.declared.certainty.Certainty.{Certainty}
 use Rattle.evidence.specs.declared.certainty.Certainty.TheVariants as certainty
 use Rattle.evidence.specs.Evidence.{EvidenceRefutes, Holds}
+use Rattle.std.proofs.lemmas.Bool.{cases_lt}
 use Rattle.std.proofs.lemmas.Option.{slice_get_within}
 use Rattle.doc_register.specs.declared.reply.Reply.{Reply as Answer}
 use Rattle.doc_register.specs.declared.reply.Reply.TheVariants.{Conflict}
@@ -15,11 +16,11 @@ use Rattle.events.specs.declared.event.Event.{Event}
 use Rattle.events.specs.declared.event.Event.TheVariants.{Call, Reply, Lost}
 use Rattle.events.specs.declared.record.Rec.{Rec}
 use Rattle.doc_register.specs.declared.op.Op.{Op}
-use Rattle.events.specs.Events.{IsCallAt, IsHistory, IsReplyAt, documents_of, heard_of, is_call, is_same, place_of, records_of}
+use Rattle.events.specs.Events.{IsCallAt, IsHistory, IsReplyAt, documents_of, heard_of, is_call, is_same, place_of, record_at, record_from, records_of}
 use Rattle.events.proofs.HistoryLemmas.{call_passes}
 use Rattle.version_pair.proofs.ListLemmas.{none_is_not_some, same_some}
 use Rattle.evidence.proofs.CallsByNumber.{call_none, call_there}
-use Rattle.events.specs.Heard.{ShowsOutcome}
+use Rattle.events.specs.Heard.{IsComplete as IsCompleteCall, ShowsOutcome}
 use Rattle.events.specs.Order.{IsLinearizable}
 use Rattle.evidence.proofs.HeardLemmas.{heard_is_reply, reply_is_heard}
 use Rattle.evidence.proofs.RuledOutLemmas.{document_there}
@@ -30,29 +31,48 @@ use Rattle.compose.specs.Laws.{IsComplete}
 use Rattle.compose.specs.Verdicts.{HasNoOrderFound}
 use Rattle.covers.proofs.ListedDocuments.{documents_apart}
 use Rattle.compose.proofs.VerifyLemmas.{document_found, document_none}
-use Rattle.compose.specs.aids.Complete.{IsCompleteEvent}
 use Rattle.compose.proofs.Restriction.{orders_are_covers}
 
--- each event before the place is complete
+-- each call before the place is complete
 abbrev pub AreCompleteBefore : Conflicts → List Event → ℕ → Type 0
-AreCompleteBefore conflicts events place = (i : ℕ) (e : Event) → i < place → slice_get events i ≡ Some e → IsCompleteEvent conflicts events e
+AreCompleteBefore conflicts events place = (i : ℕ) (r : Rec) → i < place → record_at events i ≡ Some r → IsCompleteCall conflicts r
 
--- all events are complete: so is the history
-pub complete_by_events : (conflicts : Conflicts) (events : List Event) → IsHistory events → AreCompleteBefore conflicts events (length events) → IsComplete conflicts events
-complete_by_events conflicts events history all i n h d op at write =
-    of_heard (heard_of events n) refl (all i (Call h n d op) (slice_get_within events i (Call h n d op) at) at write) where
+-- and so is the one at the place, if one is there
+pub complete_one_more : (conflicts : Conflicts) (events : List Event) (place : ℕ) (found : Option Rec) → record_at events place ≡ found → IfSome found (IsCompleteCall conflicts)
+    → AreCompleteBefore conflicts events place → AreCompleteBefore conflicts events (place + 1)
+complete_one_more conflicts events place found is own before i r less at =
+    elim (cases_lt i place) as (λ _. IsCompleteCall conflicts r) [
+      | inl within ↦ before i r within at
+      | inr past ↦
+          let last : i ≡ place = omega arith in
+          of_found found own (sym is ∙ subst (λ k. record_at events k ≡ Some r) last at)
+    ]
+  where
+    of_found : (o : Option Rec) → IfSome o (IsCompleteCall conflicts) → o ≡ Some r → IsCompleteCall conflicts r
+    of_found None own never = absurd (none_is_not_some r never)
+    of_found (Some q) own same = subst (IsCompleteCall conflicts) (same_some q r same) own
+
+-- all calls are complete: so is the history
+pub complete_by_calls : (conflicts : Conflicts) (events : List Event) → IsHistory events → AreCompleteBefore conflicts events (length events) → IsComplete conflicts events
+complete_by_calls conflicts events history all i n h d op at write =
+    of_heard (heard_of events n) refl (all i (record { no = n; op = op; call_at = i; heard = heard_of events n }) (slice_get_within events i (Call h n d op) at) (ap (option_and_then (record_from events i)) at) write) where
       of_heard : (heard : Option (ℕ × Answer)) → heard_of events n ≡ heard → ShowsOutcome conflicts heard
           → (k : ℕ) × (r : Answer) × IsReplyAt events k n r × (conflicts ≡ Maybe → r ≢ Conflict)
       of_heard None is reported = absurd reported
       of_heard (Some (k, r)) is reported = (k, r, heard_is_reply events history i n h d op at k r is, reported)
 
--- a complete history has complete events
-pub complete_events : (conflicts : Conflicts) (events : List Event) → IsHistory events → IsComplete conflicts events → (i : ℕ) (e : Event) → slice_get events i ≡ Some e → IsCompleteEvent conflicts events e
-complete_events conflicts events history complete i (Call h n d op) at = λ write.
-    let reply = complete i n h d op at write in
-    subst (ShowsOutcome conflicts) (sym (reply_is_heard events history reply.0 n reply.1 reply.2)) reply.3
-complete_events conflicts events history complete i (Reply n r) at = tt
-complete_events conflicts events history complete i (Lost n) at = tt
+-- a complete history has complete calls
+pub complete_calls : (conflicts : Conflicts) (events : List Event) → IsHistory events → IsComplete conflicts events → (i : ℕ) (r : Rec) → record_at events i ≡ Some r → IsCompleteCall conflicts r
+complete_calls conflicts events history complete i r = by_event (slice_get events i) refl where
+  by_event : (found : Option Event) → slice_get events i ≡ found → option_and_then (record_from events i) found ≡ Some r → IsCompleteCall conflicts r
+  by_event None at never = absurd (none_is_not_some r never)
+  by_event (Some (Call h n d op)) at made =
+      subst (IsCompleteCall conflicts) (same_some (record { no = n; op = op; call_at = i; heard = heard_of events n }) r made)
+      (λ write.
+      let reply = complete i n h d op at write in
+      subst (ShowsOutcome conflicts) (sym (reply_is_heard events history reply.0 n reply.1 reply.2)) reply.3)
+  by_event (Some (Reply n q)) at never = absurd (none_is_not_some r never)
+  by_event (Some (Lost n)) at never = absurd (none_is_not_some r never)
 
 -- a document whose complete records have no order leaves its history without one
 pub document_has_none : (conflicts : Conflicts) (events : List Event) (doc : ℕ) (records : List Rec) → IsHistory events

@@ -2,4 +2,3 @@ pub mod Searched
 pub mod Worked
 pub mod Verified
 pub mod Replies
-pub mod Complete

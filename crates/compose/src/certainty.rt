@@ -1,54 +1,34 @@
 //! How much an answer says of a history for which no order was found.
 
-ghost use Rattle.std.specs.Prelude.{◌≡◌, ◌≢◌, ◌<◌, ◌↔◌, ℕ, IfOk, IfSome, IsTrue, Some as Just, length, slice_get};
-ghost use Rattle.events.specs.declared.event.Event.{Event as Happening};
+ghost use Rattle.std.specs.Prelude.{◌≡◌, ◌≢◌, ◌<◌, ◌↔◌, ℕ, IfOk, IfSome, IsTrue, Some as Just, length};
 ghost use Rattle.events.specs.Events.{IsHistory, documents_of};
 ghost use Rattle.events.specs.Order.{IsLinearizable};
 ghost use Rattle.evidence.specs.Evidence.{Holds};
 ghost use Rattle.compose.specs.Certainties.{IsCallRuledOut, IsCallWithoutOrder, IsDocumentOf, IsWithoutOrder, Says, SaysOfCall};
 ghost use Rattle.compose.specs.Laws.{IsComplete};
-ghost use Rattle.compose.specs.aids.Complete.{IsCompleteEvent};
 
 use crate::case::Case;
 use crate::finding::Failing;
 use doc_check::laws::complete_have_none;
 use doc_check::{DocAnswer, answer, is_complete};
 use doc_register::Conflicts;
-use events::{Event, History, Rec};
+use events::{Event, History};
 use evidence::laws::evidence_refutes;
 use evidence::{Certainty, Refuted, is_document_ruled_out};
 use std::alloc::Global;
 use version_pair::NoMemory;
-
-// Whether the event at the position is not a write; or the write has a reply, under Maybe one other than a
-// conflict.
-fn is_complete_at(history: &History, place: usize, conflicts: Conflicts) -> bool
-    requires { place < length history.now }
-    ensures { (event : Happening) → slice_get history.now place ≡ Just event
-        → (IsTrue result ↔ IsCompleteEvent conflicts history.now event) }
-{
-    match history.event(place) {
-        Event::Call { no, op, .. } => {
-            let call = Rec {
-                no: *no,
-                op: *op,
-                call_at: place,
-                heard: history.heard(*no),
-            };
-            call.is_complete(conflicts)
-        }
-        Event::Reply { .. } | Event::Lost { .. } => true,
-    }
-}
 
 // Whether the history is complete: each write has a reply, under Maybe one other than a conflict.
 fn is_complete_history(history: &History, conflicts: Conflicts) -> bool
     requires { IsHistory history.now }
     ensures { IsTrue result ↔ IsComplete conflicts history.now }
 {
-    for place in 0..history.len() {
-        if !is_complete_at(history, place, conflicts) {
-            return false;
+    let events = history.whole();
+    for place in 0..events.len() {
+        if let Some(call) = events.record_at(place) {
+            if !call.is_complete(conflicts) {
+                return false;
+            }
         }
     }
     true

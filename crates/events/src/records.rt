@@ -25,9 +25,12 @@ impl Front<'_> {
         }
     }
 
-    // The call at the position, as a record.
-    fn record(&self, place: usize) -> Option<Rec>
+    /// Returns the call at the position as a record, with what was heard of it before the end of the prefix.
+    /// `None` if another event is there.
+    pub fn record_at(&self, place: usize) -> Option<Rec>
+        // The position is below the number of events.
         requires { place < length self.now }
+        // It is the record at this position.
         ensures { result ≡ record_at self.now place }
     {
         match self.event(place) {
@@ -53,7 +56,7 @@ impl Front<'_> {
         let places = self.calls_of_document(doc)?;
         let mut records = Vec::with_capacity(self.allocator(), places.len())?;
         for k in 0..places.len() {
-            push_some(&mut records, self.record(places[k]))?;
+            push_some(&mut records, self.record_at(places[k]))?;
         }
         Ok(records)
     }
@@ -80,7 +83,7 @@ impl History {
         ensures { result ≡ option_and_then (record_at self.now) (place_of (is_call no) self.now) }
     {
         match self.call(no) {
-            Some(place) => self.whole().record(place),
+            Some(place) => self.whole().record_at(place),
             None => None,
         }
     }

@@ -12,7 +12,7 @@ ghost use Rattle.report.specs.Verdict.{IsAnswer, IsWitnessAnswer};
 ghost use Rattle.report.specs.Workers.{AreWorkers, HasDocument};
 
 use crate::check_options::CheckOptions;
-use crate::progress::{Progress, Stage};
+use crate::progress::{CheckProgress, CheckStage};
 use api_lines::TextFault;
 use check_pool::{NoGate, PoolFault};
 use compose::{
@@ -26,7 +26,7 @@ use result_lines::{no_line, refused_line, refuted_line, yes_line};
 use std::alloc::Global;
 use std::sync::Wait;
 use std::thread::Threads;
-use stream_io::{Answer, Status, StreamFault};
+use stream_io::{AnswerText, Status, StreamFault};
 use version_pair::NoMemory;
 
 /// Returns evidence that no order explains the case's history, if some is found. Documents that are ruled out
@@ -56,7 +56,7 @@ pub fn case_answer(
     alloc: Global,
     case: &Case,
     ruling_out: RulingOut,
-) -> Result<(Answer, Failing), NoMemory>
+) -> Result<(AnswerText, Failing), NoMemory>
     ensures answers { IfOk result (λ made. (input : List ℕ) → IsHistoryText input case.now.events
         → IsAnswer ruling_out case.now.conflicts input made.0.status made.0.text.items
         × IsWitnessAnswer ruling_out case.now.conflicts input made.0.status made.0.text.items) }
@@ -73,17 +73,17 @@ pub fn case_answer(
             // What evidence says of a history is known from here on.
             evidence_refutes();
             let line = refuted_line(alloc, evidence, offence)?;
-            Ok((Answer::of(Status::Refuted, line), failing))
+            Ok((AnswerText::of(Status::Refuted, line), failing))
         }
         None => {
             let line = no_line(alloc, offence)?;
-            Ok((Answer::of(Status::No, line), failing))
+            Ok((AnswerText::of(Status::No, line), failing))
         }
     }
 }
 
 /// Returns the answer to a text that was refused.
-pub fn refusal(alloc: Global, fault: TextFault) -> Result<Answer, NoMemory>
+pub fn refusal(alloc: Global, fault: TextFault) -> Result<AnswerText, NoMemory>
     ensures status { IfOk result (λ answer. answer.status ≡ Status.Refused) }
     ensures line { IfOk result (λ answer. answer.text.items ≡ reported_refused fault.line fault.cause) }
     ensures answers { IfOk result (λ answer. (ruling : Ruling) (conflicts : Reading) (input : List ℕ)
@@ -93,7 +93,7 @@ pub fn refusal(alloc: Global, fault: TextFault) -> Result<Answer, NoMemory>
         → IsWitnessAnswer ruling conflicts input answer.status answer.text.items) }
 {
     let line = refused_line(alloc, fault)?;
-    Ok(Answer::of(Status::Refused, line))
+    Ok(AnswerText::of(Status::Refused, line))
 }
 
 /// Returns the verdict on a history, with these options.
@@ -143,8 +143,8 @@ pub fn history_answer<R: Threads + Wait + Sync>(
     alloc: Global,
     history: History,
     options: CheckOptions,
-    progress: &Progress,
-) -> Result<(Answer, Finding), StreamFault>
+    progress: &CheckProgress,
+) -> Result<(AnswerText, Finding), StreamFault>
     // There are 1 to 16 workers.
     requires workers { AreWorkers options.workers }
     // The answer is one to each text of the history, as `check_stream` promises it.
@@ -166,10 +166,10 @@ pub fn history_answer<R: Threads + Wait + Sync>(
     match verdict_by(rt, alloc, history, options)? {
         Verdict::Yes(proof) => {
             let line = yes_line(alloc, Counts::of(&proof))?;
-            Ok((Answer::of(Status::Yes, line), Finding::Explained(proof)))
+            Ok((AnswerText::of(Status::Yes, line), Finding::Explained(proof)))
         }
         Verdict::No(case) => {
-            progress.reach(Stage::Narrowing);
+            progress.reach(CheckStage::Narrowing);
             let (answer, failing) = case_answer(alloc, &case, options.ruling_out)?;
             Ok((answer, Finding::Unexplained(case, failing)))
         }

@@ -7,20 +7,20 @@ ghost use Rattle.stream_io.specs.Taken.{TakesHistory};
 
 use crate::check_answer::{history_answer, refusal};
 use crate::check_options::CheckOptions;
-use crate::progress::{Progress, Stage};
+use crate::progress::{CheckProgress, CheckStage};
 use compose::{Counts, Finding};
 use events::HashKeys;
 use std::alloc::Global;
 use std::io::Read;
 use std::sync::Wait;
 use std::thread::Threads;
-use stream_io::{Answer, StreamFault, read_history};
+use stream_io::{AnswerText, StreamFault, read_history};
 
 /// What a check found in a text.
 #[derive(Drop)]
 pub struct Checked {
     /// The line that answers the text.
-    pub answer: Answer,
+    pub answer: AnswerText,
     /// The number of calls of the text's history, if the answer is yes.
     pub calls: Option<usize>,
 }
@@ -45,7 +45,7 @@ pub fn check_text<T: Threads + Wait + Sync, R: Read>(
     keys: HashKeys,
     reader: &mut R,
     options: CheckOptions,
-    progress: &Progress,
+    progress: &CheckProgress,
 ) -> Result<Checked, StreamFault>
     // There are 1 to 16 workers.
     requires workers { AreWorkers options.workers }
@@ -65,10 +65,10 @@ pub fn check_text<T: Threads + Wait + Sync, R: Read>(
     // `check_stream`.
     ensures taken { TakesHistory (R.remaining reader.old) (R.remaining reader.new) }
 {
-    progress.reach(Stage::Reading);
+    progress.reach(CheckStage::Reading);
     match read_history(alloc, keys, reader)? {
         Ok(history) => {
-            progress.reach(Stage::Searching);
+            progress.reach(CheckStage::Searching);
             let (answer, finding) = history_answer(rt, alloc, history, options, progress)?;
             let calls = calls_explained(&finding);
             Ok(Checked { answer, calls })

@@ -17,7 +17,7 @@ ghost use Rattle.report.specs.Workers.{AreWorkers, HasDocument, NamesOwnDocument
 use crate::check_answer::{case_answer, verdict_by};
 use crate::check_options::CheckOptions;
 use crate::numbered_input::read_numbered;
-use crate::progress::{Progress, Stage};
+use crate::progress::{CheckProgress, CheckStage};
 use api_lines::TextFault;
 use compose::{Case, Counts, Failing, Finding, Offence, RulingOut, Verdict, is_complete_case};
 use events::{Event, HashKeys, History};
@@ -168,7 +168,7 @@ pub fn history_details<T: Threads + Wait + Sync>(
     history: History,
     lines: &EventLines,
     options: CheckOptions,
-    progress: &Progress,
+    progress: &CheckProgress,
 ) -> Result<(Details, Finding), StreamFault>
     requires workers { AreWorkers options.workers }
     ensures answer { IfOk result (λ made. (input : List ℕ) → IsHistoryText input history
@@ -192,7 +192,7 @@ pub fn history_details<T: Threads + Wait + Sync>(
             Ok((details, Finding::Explained(proof)))
         }
         Verdict::No(case) => {
-            progress.reach(Stage::Narrowing);
+            progress.reach(CheckStage::Narrowing);
             let (details, failing) = case_details(alloc, &case, options.ruling_out, lines)?;
             Ok((details, Finding::Unexplained(case, failing)))
         }
@@ -209,7 +209,7 @@ pub fn check_details<T: Threads + Wait + Sync, R: Read>(
     keys: HashKeys,
     reader: &mut R,
     options: CheckOptions,
-    progress: &Progress,
+    progress: &CheckProgress,
     kept: Kept,
 ) -> Result<Details, StreamFault>
     // There are 1 to 16 workers.
@@ -233,10 +233,10 @@ pub fn check_details<T: Threads + Wait + Sync, R: Read>(
     // `check_stream`.
     ensures taken { TakesHistory (R.remaining reader.old) (R.remaining reader.new) }
 {
-    progress.reach(Stage::Reading);
+    progress.reach(CheckStage::Reading);
     match read_numbered(alloc, keys, reader, kept) {
         Ok(Ok((history, lines))) => {
-            progress.reach(Stage::Searching);
+            progress.reach(CheckStage::Searching);
             let (details, _) = history_details(rt, alloc, history, &lines, options, progress)?;
             Ok(details)
         }

@@ -13,7 +13,7 @@ use crate::check_options::CheckOptions;
 use crate::details::{Details, history_details, status_of};
 use crate::explain::story_of;
 use crate::numbered_input::read_numbered;
-use crate::progress::{Progress, Stage};
+use crate::progress::{CheckProgress, CheckStage};
 use crate::shown_page::{PageOptions, page_shown, view_of};
 use events::{HashKeys, History};
 use std::alloc::Global;
@@ -21,7 +21,7 @@ use std::io::Read;
 use std::sync::Wait;
 use std::thread::Threads;
 use story::{EventLines, Kept, Story, View, plain_text, refused_story};
-use stream_io::{Answer, StreamFault};
+use stream_io::{AnswerText, StreamFault};
 
 /// What a check finds in a text, piece by piece, and what explains it.
 #[derive(Drop)]
@@ -41,7 +41,7 @@ fn explained_history<T: Threads + Wait + Sync>(
     history: History,
     lines: &EventLines,
     options: CheckOptions,
-    progress: &Progress,
+    progress: &CheckProgress,
     view: Option<&View<'_>>,
 ) -> Result<(Details, Story), StreamFault>
     requires workers { AreWorkers options.workers }
@@ -65,7 +65,7 @@ fn explain<T: Threads + Wait + Sync, R: Read>(
     keys: HashKeys,
     reader: &mut R,
     options: CheckOptions,
-    progress: &Progress,
+    progress: &CheckProgress,
     view: Option<&View<'_>>,
 ) -> Result<(Details, Story), StreamFault>
     requires workers { AreWorkers options.workers }
@@ -78,10 +78,10 @@ fn explain<T: Threads + Wait + Sync, R: Read>(
     ensures named { IfErr result (NamesOwnDocument (R.remaining reader.old)) }
     ensures taken { TakesHistory (R.remaining reader.old) (R.remaining reader.new) }
 {
-    progress.reach(Stage::Reading);
+    progress.reach(CheckStage::Reading);
     match read_numbered(alloc, keys, reader, Kept::All) {
         Ok(Ok((history, lines))) => {
-            progress.reach(Stage::Searching);
+            progress.reach(CheckStage::Searching);
             explained_history(rt, alloc, history, &lines, options, progress, view)
         }
         Ok(Err(refused)) => {
@@ -102,7 +102,7 @@ pub fn explained_details<T: Threads + Wait + Sync, R: Read>(
     keys: HashKeys,
     reader: &mut R,
     options: CheckOptions,
-    progress: &Progress,
+    progress: &CheckProgress,
     shown: Option<PageOptions<'_>>,
 ) -> Result<ExplainedDetails, StreamFault>
     // There are 1 to 16 workers.
@@ -147,9 +147,9 @@ pub fn explained_answer<T: Threads + Wait + Sync, R: Read>(
     keys: HashKeys,
     reader: &mut R,
     options: CheckOptions,
-    progress: &Progress,
+    progress: &CheckProgress,
     shown: Option<PageOptions<'_>>,
-) -> Result<(Answer, Option<Vec<u8>>), StreamFault>
+) -> Result<(AnswerText, Option<Vec<u8>>), StreamFault>
     // There are 1 to 16 workers.
     requires workers { AreWorkers options.workers }
     // The text of the answer begins with a line that answers the bytes of the reader as the line of
@@ -172,7 +172,7 @@ pub fn explained_answer<T: Threads + Wait + Sync, R: Read>(
     let reported = &found.details.reported;
     let mut text = reported.line(alloc)?;
     text.push_str(found.explanation.as_str())?;
-    let answer = Answer {
+    let answer = AnswerText {
         status: status_of(reported),
         text: text.into_bytes(),
     };

@@ -2,7 +2,7 @@ use std::sync::atomic::{AtomicU64, Ordering};
 
 /// What a check is doing.
 #[derive(Clone, Copy, PartialEq, Eq)]
-pub enum Stage {
+pub enum CheckStage {
     /// It hasn't begun: files are opened.
     Opening,
     /// It reads the text.
@@ -18,39 +18,39 @@ pub enum Stage {
 /// The stage that a check has reached, at which other threads may look meanwhile; of several checks that share it, one
 /// that one of them has reached.
 #[derive(Drop)]
-pub struct Progress {
-    // The stage by its position in `Stage`.
+pub struct CheckProgress {
+    // The stage by its position in `CheckStage`.
     reached: AtomicU64,
 }
 
-impl Progress {
+impl CheckProgress {
     /// Returns that of a check that begins.
-    pub fn new() -> Progress {
-        Progress {
+    pub fn new() -> CheckProgress {
+        CheckProgress {
             reached: AtomicU64::new(0),
         }
     }
 
     /// Notes that the check has reached the stage.
-    pub fn reach(&self, stage: Stage) {
+    pub fn reach(&self, stage: CheckStage) {
         let position = match stage {
-            Stage::Opening => 0,
-            Stage::Reading => 1,
-            Stage::Searching => 2,
-            Stage::Narrowing => 3,
-            Stage::Ended => 4,
+            CheckStage::Opening => 0,
+            CheckStage::Reading => 1,
+            CheckStage::Searching => 2,
+            CheckStage::Narrowing => 3,
+            CheckStage::Ended => 4,
         };
         self.reached.store(position, Ordering::SeqCst);
     }
 
     /// Returns the stage that was noted last.
-    pub fn stage(&self) -> Stage {
+    pub fn stage(&self) -> CheckStage {
         match self.reached.load(Ordering::SeqCst) {
-            0 => Stage::Opening,
-            1 => Stage::Reading,
-            2 => Stage::Searching,
-            3 => Stage::Narrowing,
-            _ => Stage::Ended,
+            0 => CheckStage::Opening,
+            1 => CheckStage::Reading,
+            2 => CheckStage::Searching,
+            3 => CheckStage::Narrowing,
+            _ => CheckStage::Ended,
         }
     }
 }

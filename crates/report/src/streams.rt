@@ -13,7 +13,7 @@ use crate::check_options::CheckOptions;
 use crate::checked::check_text;
 use crate::details::status_of;
 use crate::explained::explained_answer;
-use crate::progress::Progress;
+use crate::progress::CheckProgress;
 use crate::verify_input::verify_reported;
 use crate::witness_answer::witness_answer;
 use compose::RulingOut;
@@ -23,7 +23,7 @@ use std::alloc::Global;
 use std::io::{Read, Write};
 use std::sync::Wait;
 use std::thread::Threads;
-use stream_io::{Answer, Status, StreamFault, read_all, write_answer};
+use stream_io::{AnswerText, Status, StreamFault, read_all, write_answer};
 
 /// Reads a history text to its end, and writes one line:
 ///
@@ -89,7 +89,7 @@ pub fn check_stream<T: Threads + Wait + Sync, R: Read, W: Write>(
     // what the last read returned, 32,768 bytes at most.
     ensures taken { TakesHistory (R.remaining reader.old) (R.remaining reader.new) }
 {
-    let progress = Progress::new();
+    let progress = CheckProgress::new();
     let options = CheckOptions {
         workers,
         conflicts,
@@ -141,7 +141,7 @@ pub fn explain_stream<T: Threads + Wait + Sync, R: Read, W: Write>(
     // `check_stream`.
     ensures taken { TakesHistory (R.remaining reader.old) (R.remaining reader.new) }
 {
-    let progress = Progress::new();
+    let progress = CheckProgress::new();
     let options = CheckOptions {
         workers,
         conflicts,
@@ -231,7 +231,7 @@ pub fn verify_stream<R: Read, Q: Read, W: Write>(
 {
     let reported = verify_reported(alloc, keys, history, witness, conflicts)?;
     let line = reported.line(alloc)?;
-    write_answer(writer, &Answer::of(status_of(&reported), line))
+    write_answer(writer, &AnswerText::of(status_of(&reported), line))
 }
 
 /// Reads the body of a bulk request and then its reply, each to its end, and writes their lines in a history:

@@ -10,7 +10,7 @@ use doc_register::Conflicts;
 use events::{HashKeys, History};
 use std::alloc::{AllocError, Global};
 use std::io::Read;
-use stream_io::{Answer, Status, StreamFault, read_history};
+use stream_io::{AnswerText, Status, StreamFault, read_history};
 use version_pair::NoMemory;
 use witness::write_witness;
 
@@ -20,14 +20,14 @@ fn history_witness(
     history: History,
     conflicts: Conflicts,
     ruling_out: RulingOut,
-) -> Result<Answer, NoMemory>
+) -> Result<AnswerText, NoMemory>
     ensures { IfOk result (λ answer. (input : List ℕ) → IsHistoryText input history
         → IsWitnessAnswer ruling_out conflicts input answer.status answer.text.items) }
 {
     match check_alone(alloc, history, conflicts) {
         Ok(Verdict::Yes(proof)) => {
             let text = write_witness(alloc, proof.witnesses())?;
-            Ok(Answer {
+            Ok(AnswerText {
                 status: Status::Yes,
                 text,
             })
@@ -48,7 +48,7 @@ pub fn witness_answer<R: Read>(
     reader: &mut R,
     conflicts: Conflicts,
     ruling_out: RulingOut,
-) -> Result<Answer, StreamFault>
+) -> Result<AnswerText, StreamFault>
     ensures answer { IfOk result (λ answer. WitnessesInput ruling_out conflicts (R.remaining reader.old) answer.status
         answer.text.items) }
     ensures reported { IfErr result IsReadingFault }

@@ -22,14 +22,20 @@ pub struct Standings {
     cause: Option<Cause>,
 }
 
-// Which standing first brought the document to the floor. Each raise has the position and the standing that
-// brought the document there.
-fn bound_of(raises: &[(usize, usize)], floor: usize) -> Option<usize> {
+// A position to which the document was brought, and the number of the standing that brought it there.
+#[derive(Clone, Copy)]
+struct Raise {
+    reached: usize,
+    standing: usize,
+}
+
+// Which standing first brought the document to the floor.
+fn bound_of(raises: &[Raise], floor: usize) -> Option<usize> {
     if floor == 0 {
         return None;
     }
-    let place = raises.partition_point(|raise| raise.0 < floor);
-    raises.get(place).map(|raise| raise.1)
+    let place = raises.partition_point(|raise| raise.reached < floor);
+    raises.get(place).map(|raise| raise.standing)
 }
 
 impl Standings {
@@ -59,7 +65,10 @@ impl Standings {
                 return Ok(());
             }
             if before < self.walk.reached() {
-                raises.push((self.walk.reached(), self.standings.len().saturating_sub(1)))?;
+                raises.push(Raise {
+                    reached: self.walk.reached(),
+                    standing: self.standings.len().saturating_sub(1),
+                })?;
             }
         }
         Ok(())

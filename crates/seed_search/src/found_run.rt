@@ -1,4 +1,4 @@
-use stream_io::Answer;
+use stream_io::AnswerText;
 
 /// A run for whose history no order was found.
 #[derive(Drop)]
@@ -8,5 +8,5 @@ pub struct FoundRun {
     /// The text of the history.
     pub text: Vec<u8>,
     /// The answer of a check of the text, with documents checked for being ruled out.
-    pub answer: Answer,
+    pub answer: AnswerText,
 }

@@ -13,7 +13,7 @@ mod output;
 mod status;
 mod stream_fault;
 
-pub use answer::Answer;
+pub use answer::AnswerText;
 pub use api_lines::CHUNK;
 pub use input::{read_all, read_entries, read_history};
 pub use output::{write_answer, write_text};

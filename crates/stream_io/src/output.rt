@@ -1,7 +1,7 @@
 ghost use Rattle.std.specs.Prelude.{◌≡◌, ◌<◌, ◌≤◌, ℕ, [], IfErr, IfNone, IfSome, MatchResult, OnOk, OnErr, length, take};
 ghost use Rattle.std.specs.Io.KnownBytes.{Appends};
 
-use crate::answer::Answer;
+use crate::answer::AnswerText;
 use crate::status::Status;
 use crate::stream_fault::StreamFault;
 use std::io::Write;
@@ -42,7 +42,7 @@ pub fn write_text<W: Write>(writer: &mut W, text: &[u8]) -> Result<(), StreamFau
 
 /// Writes the answer, and returns its status. Errors: `Write` if the writer fails or takes no byte; it then
 /// holds a prefix of the text.
-pub fn write_answer<W: Write>(writer: &mut W, answer: &Answer) -> Result<Status, StreamFault>
+pub fn write_answer<W: Write>(writer: &mut W, answer: &AnswerText) -> Result<Status, StreamFault>
     // The status is that of the answer, and the writer holds the text after what it held; or the error is
     // `Write`, and the writer holds a prefix of the text after what it held.
     ensures { MatchResult result

@@ -2,8 +2,8 @@
 use Rattle.std.specs.Prelude.{ℕ, List}
 use Rattle.json.specs.Lex.{Place, after_comma, after_value, between, fresh, lex, punctuate}
 use Rattle.json.specs.Token.{Token}
-use Rattle.api_lines.specs.declared.scanner.Place.{Place as Stand}
-use Rattle.api_lines.specs.declared.scanner.Place.TheVariants.{AfterComma, AfterValue, Fresh}
+use Rattle.api_lines.specs.declared.scanner.CommaState.{CommaState as Stand}
+use Rattle.api_lines.specs.declared.scanner.CommaState.TheVariants.{AfterComma, AfterValue, Fresh}
 use Rattle.api_lines.specs.declared.scanner.Scanner.{Scanner}
 
 -- the lexer's place

@@ -12,9 +12,9 @@ listed o = unwrap_or o []
 pub returns-in-Some : goal.returns-in-Some
 unfolding listed
 returns-in-Some c =
-    IfOk-weaker c.from_slice.result _ _ (λ texts same. ap (map (λ t. t.now)) same ∙ ap listed (c.in-Some.ensures ∙ raw_values-rows (found_of c.args.given.now) c.args.argument.now))
+    IfOk-weaker c.from_slice.result _ _ (λ texts same. ap (map (λ t. t.now)) same ∙ ap listed (c.in-Some.ensures ∙ raw_values-rows (found_of c.args.given.now) c.args.argument.id.now))
     c.from_slice.ensures.items
 
 pub returns-in-None : goal.returns-in-None
 unfolding listed
-returns-in-None c = ap (map (λ t. t.now)) c.new.ensures.items ∙ ap listed (c.in-None.ensures ∙ raw_values-rows (found_of c.args.given.now) c.args.argument.now)
+returns-in-None c = ap (map (λ t. t.now)) c.new.ensures.items ∙ ap listed (c.in-None.ensures ∙ raw_values-rows (found_of c.args.given.now) c.args.argument.id.now)

@@ -9,8 +9,8 @@ use Rattle.events.proofs.front.Front.records.Goals as goal
 pub loop-k-init : goal.loop-k-init
 loop-k-init c = c.in_ok-records.ensures.items ∙ records_none c.args.self.now c.in_ok-places.places.items
 
-pub record-requires : goal.record-requires
-record-requires c =
+pub record_at-requires : goal.record_at-requires
+record_at-requires c =
     let below : c.loop-k.k < length c.in_ok-places.places.items = search (rules, c.loop-k-test.true) in
     listed_within c.args.self.now (slice_get (documents_of c.args.self.now) c.args.doc) c.in_ok-places.places.items c.loop-k.k _
     c.in_ok-places.ensures
@@ -20,8 +20,8 @@ pub loop-k-preserved : goal.loop-k-preserved
 loop-k-preserved c =
     let below : c.loop-k.k < length c.in_ok-places.places.items = search (rules, c.loop-k-test.true) in
     c.in_ok-push_some.ensures.ok
-    ∙ (ap (λ rs. rs ++ option_to_list c.record.result) c.loop-k.invariant
-    ∙ (ap (λ r. records_at_places c.args.self.now (take c.loop-k.k c.in_ok-places.places.items) ++ option_to_list r) c.record.ensures
+    ∙ (ap (λ rs. rs ++ option_to_list c.record_at.result) c.loop-k.invariant
+    ∙ (ap (λ r. records_at_places c.args.self.now (take c.loop-k.k c.in_ok-places.places.items) ++ option_to_list r) c.record_at.ensures
     ∙ sym (records_one_more c.args.self.now c.in_ok-places.places.items c.loop-k.k _
     (slice_get_read c.in_ok-places.places.items _ c.loop-k.k c.index.result.now refl below c.index.ensures))))
 

@@ -1,5 +1,5 @@
 use Rattle.events.proofs.OpenCalls.{call_at_place, record_is_at}
-use Rattle.events.proofs.front.Front.record.Goals as goal
+use Rattle.events.proofs.front.Front.record_at.Goals as goal
 
 pub returns-in-Call : goal.returns-in-Call
 returns-in-Call c =
