@@ -61,7 +61,7 @@ def absent(name, fault):
 
 DIRECTORY = f"casbench: broken: is a directory\n{READ_FAULT}"
 TWO_INPUTS = f"casbench: standard input is named twice\n{READ_FAULT}"
-PROGRESS = re.compile(rb"\A(\r\x1b\[Kcasbench: (reading|searching for an order|looking for the broken reply) \(\d+ s\))+\r\x1b\[K\Z")
+PROGRESS = re.compile(rb"(\r\x1b\[Kcasbench: (reading|searching for an order|looking for the broken reply) \(\d+ s\))+\r\x1b\[K")
 TERMINAL = "casbench: reads from the terminal until Ctrl-D on a line of its own; for help: casbench --help\n"
 PACKED = "casbench: packed.gz is compressed; try: zcat packed.gz | casbench check\n"
 
@@ -371,6 +371,39 @@ def filled(folder):
     return folder
 
 
+@contextlib.contextmanager
+def at_terminal(command, has_output):
+    """The command as it runs, and the other end of the terminal to which it writes its errors, and its output if so asked; it
+    is ended at last, if it hasn't by itself."""
+    leader, follower = os.openpty()
+    try:
+        with subprocess.Popen(
+            command, stdin=subprocess.PIPE, stdout=follower if has_output else subprocess.DEVNULL, stderr=follower
+        ) as child:
+            os.close(follower)
+            try:
+                yield child, leader
+            finally:
+                child.kill()
+    finally:
+        os.close(leader)
+
+
+def first_shown(leader):
+    """What a terminal shows first; it has to come in time."""
+    assert select.select([leader], [], [], SECONDS)[0], "nothing is said"
+    return os.read(leader, 4096)
+
+
+def rest_shown(leader):
+    """What a terminal shows until nobody writes to it."""
+    shown = b""
+    with contextlib.suppress(OSError):  # (the terminal is gone at its end)
+        while more := first_shown(leader):
+            shown += more
+    return shown
+
+
 class Pipe:
     """A named pipe that the program reads."""
 
@@ -475,48 +508,38 @@ class Arguments(ProgramTest):
         os.close(leader)
 
     def check_progress(self, command):
-        """Gives the first line of a text, and the rest once something is said; returns what is said and what is written."""
-        leader, follower = os.openpty()
-        how = {"stdin": subprocess.PIPE, "stdout": subprocess.PIPE, "stderr": follower}
+        """Gives the first line of a text, and the rest once something is said."""
         first, *rest = case_text("index-then-get").encode().splitlines(True)
-        with subprocess.Popen([self.program, *command.split()], **how) as child:
-            os.close(follower)
+        with at_terminal([self.program, *command.split()], has_output=True) as (child, leader):
             child.stdin.write(first)
             child.stdin.flush()
-            self.assertTrue(select.select([leader], [], [], SECONDS)[0], "nothing is said")
-            shown = os.read(leader, 4096)
-            out, _ = child.communicate(b"".join(rest), timeout=SECONDS)
-        with contextlib.suppress(OSError):  # (the terminal is gone at its end)
-            while more := os.read(leader, 4096):
-                shown += more
-        os.close(leader)
-        self.assertEqual(child.returncode, 0)
-        answer = '{"answer":"yes"' if "--json" in command else ANSWER
-        self.assertEqual(out[: len(answer)].decode(), answer)
-        self.assertRegex(shown, PROGRESS)
+            shown = first_shown(leader)
+            child.stdin.write(b"".join(rest))
+            child.stdin.close()
+            shown += rest_shown(leader)
+            self.assertEqual(child.wait(SECONDS), 0)
+        progress = PROGRESS.match(shown)
+        self.assertTrue(progress, f"it begins otherwise: {shown}")
+        answer = b'{"answer":"yes"' if "--json" in command else ANSWER.replace("\n", "\r\n").encode()
+        self.assertEqual(shown[progress.end() :][: len(answer)], answer)
 
     def test_progress(self):
-        """At a terminal a command that takes two seconds says what it is doing, and clears the line before it answers."""
+        """At a terminal a command that takes two seconds says what it is doing, and clears the line before it answers. Here it
+        reads; searches that take so long are too large for a test."""
         rows = ["check", "check --json", "explain", "explain --json"]
         self.run_subtests(self.check_progress, [(it, it) for it in rows])
 
     def test_progress_ends(self):
         """The line is cleared before a page that can't be written is reported."""
-        leader, follower = os.openpty()
-        how = {"stdin": subprocess.PIPE, "stdout": subprocess.DEVNULL, "stderr": follower}
-        with subprocess.Popen([self.program, "explain", "--html", "/absent/page"], **how) as child:
-            os.close(follower)
-            self.assertTrue(select.select([leader], [], [], SECONDS)[0], "nothing is said")
-            shown = os.read(leader, 4096)
-            child.communicate(timeout=SECONDS)
-        with contextlib.suppress(OSError):
-            while more := os.read(leader, 4096):
-                shown += more
-        os.close(leader)
-        self.assertEqual(child.returncode, 4)
+        with at_terminal([self.program, "explain", "--html", "/absent/page"], has_output=False) as (child, leader):
+            shown = first_shown(leader)
+            child.stdin.close()
+            shown += rest_shown(leader)
+            self.assertEqual(child.wait(SECONDS), 4)
+        progress = PROGRESS.match(shown)
+        self.assertTrue(progress, f"it begins otherwise: {shown}")
         said = absent("/absent/page", WRITE_FAULT).replace("\n", "\r\n").encode()
-        self.assertEqual(shown[-len(said) :], said)
-        self.assertRegex(shown[: -len(said)], PROGRESS)
+        self.assertEqual(shown[progress.end() :], said)
 
     def check_help(self, folder, arguments, example):
         status, out, why = self.ran(arguments, folder)

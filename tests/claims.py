@@ -472,6 +472,12 @@ class Claims(ProgramTest):
         made = subprocess.run([TOP / "docs" / "make", "--check"], capture_output=True, text=True)
         self.assertEqual((made.returncode, made.stdout, made.stderr), (0, "", ""), "docs/make has to be run")
 
+    def test_toolchain(self):
+        """The pages name the toolchain with which the program of dist/ was built."""
+        built = (TOP / "dist" / "x86_64-linux" / "SOURCES").read_text().splitlines()[0].removeprefix("toolchain ")
+        for page in ("README.md", "docs/PROVED.md"):
+            self.assertEqual(re.findall(r"`(rattle-kit[^`]*)`", (TOP / page).read_text()), [built], page)
+
     def test_model(self):
         Model(self.sources, self).hold_all()
 

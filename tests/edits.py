@@ -4,7 +4,7 @@
     python3 tests/edits.py [PROGRAM]      whether each edit can be applied: its old texts stand once in their files
     python3 tests/edits.py --try NAME..   the edits of these crates are tried by the prover, as those of must-fail are
 
-An edit of tests/edits/NAME takes a check of the whole crate NAME; try them if its contracts or bodies have changed.
+Try those of a crate if its contracts or bodies have changed.
 PROGRAM is ignored.
 """
 
@@ -33,10 +33,12 @@ def fault_of(edit):
                 return f"there is no {text}"
         elif key == "old":
             old = text
-        elif key == "new":
+        elif key == "new" and path and old:
             before = texts.get(path) or path.read_text()
             if before.count(old) != 1:
                 return f"{path.name} has {before.count(old)} times: {old}"
+            if old == text:
+                return f"it changes nothing: {old}"
             texts[path] = before.replace(old, text)
         elif line:
             return f"a line is none of an edit: {line}"
@@ -44,7 +46,7 @@ def fault_of(edit):
 
 
 def hold_edits():
-    """Holds all edits to their crates, and returns how many can't be applied."""
+    """Holds all edits to their crates; returns the exit status."""
     faults = {edit: fault_of(edit) for edit in edits_of()}
     failed = {edit: fault for edit, fault in faults.items() if fault}
     for edit, fault in failed.items():
@@ -54,7 +56,7 @@ def hold_edits():
 
 
 def try_edits(names):
-    """Lets the prover try the edits of the crates, in their folders must-fail, and returns whether one is not refused."""
+    """Lets the prover try the edits of the crates, in their folders must-fail; returns the exit status."""
     edits = [it for name in names for it in edits_of(name)]
     places = [TOP / "crates" / it.parent.name / "must-fail" / it.name for it in edits]
     if not all(edits_of(name) for name in names) or not names or any(it.exists() for it in places):
@@ -69,7 +71,7 @@ def try_edits(names):
         return subprocess.run(["rt", "must-fail", *names], cwd=TOP, check=False).returncode
     finally:
         for place in added:
-            place.unlink()
+            place.unlink(missing_ok=True)
             if not any(place.parent.iterdir()):
                 place.parent.rmdir()
 
@@ -77,7 +79,7 @@ def try_edits(names):
 def main():
     words = sys.argv[1:]
     if words[:1] == ["--try"]:
-        return try_edits(words[1:])
+        return try_edits([*dict.fromkeys(words[1:])])
     return hold_edits()
 
 

@@ -184,10 +184,9 @@ class Objects(ProgramTest):
         with tempfile.TemporaryDirectory() as folder:
             pipe = pathlib.Path(folder) / "pipe"
             os.mkfifo(pipe)
-            with subprocess.Popen(words, cwd=folder, stdout=subprocess.PIPE, text=True) as child:
-                # (on a thread, since it waits until the program opens the pipe)
-                threading.Thread(target=pipe.write_text, args=(TIMED,), daemon=True).start()
-                out, _ = child.communicate(timeout=SECONDS)
+            # (on a thread, since it waits until the program opens the pipe)
+            threading.Thread(target=pipe.write_text, args=(TIMED,), daemon=True).start()
+            out = subprocess.run(words, cwd=folder, stdout=subprocess.PIPE, text=True, timeout=SECONDS, check=False).stdout
         self.check_object(out, line, TIMED, {"file": "pipe"})
 
     def test_several_files(self):

@@ -31,32 +31,29 @@ AnswersCheck ruling conflicts least input old new outcome =
 -- What the target of a run issued tickets for, and what it gave when they were polled; what standard input has, and
 -- what the writer held before and holds after.
 module _ (issued : Ticket → List ℕ → Op → Type 0) (gave : Ticket → Progress → Type 0) (input old new : Option (List ℕ)) where
-  -- The writer holds, after what it held, what answers the request, which came to that outcome. Of what is written of a
-  -- file, and not of standard input, nothing is said, but that a `CheckEach` writes something in its form for each name,
-  -- in their order.
+  -- The writer holds, after what it held, what answers the request, which came to that outcome. Check: the line of a
+  -- check. CheckEach: a line or an object for each text, in their order. Witness: the witness, or the answer of a check
+  -- that is not yes. Run: the text of a run; in turns of exactly the run that the setting and the disturbance determine.
+  -- Search: the first run for which no order was found; or no, if there is none. Explain: the answer of a check, and its
+  -- explanation. What is written of a file, and not of standard input, is not said, but that a CheckEach writes something
+  -- in its form for each name, in their order; so nothing is said of Verify and Bulk, of which one text at least is a
+  -- file.
   -- Source: profile.
   abbrev pub Answers : Request → Outcome → Type 0
-  -- the line of a check
   Answers (request.Check file conflicts workers ruling least) outcome =
       names_input (option_map (λ t. t.now) file) ≡ true → AnswersCheck ruling conflicts least input old new outcome
-  -- a line or an object for each text, in their order
   Answers (request.CheckEach files form conflicts workers ruling least) outcome =
       (texts : List Named) × AreOfFiles (or_input (map (λ f. f.now) files.items)) input texts
       × HasAnswer (AnswersEach ruling conflicts least form texts outcome) old new
-  -- the witness, or the answer of a check that is not yes
   Answers (request.Witness file form conflicts ruling) outcome =
       names_input (option_map (λ t. t.now) file) ≡ true
       → IsAnswerWith (λ status. HasAnswer (WitnessesInForm form (name_of (option_map (λ t. t.now) file)) ruling conflicts input status) old new) outcome
-  -- one of the two texts is a file
   Answers (request.Verify history witness form conflicts) outcome = Unit {0}
   Answers (request.Bulk body reply first) outcome = Unit {0}
-  -- the text of a run; in turns of exactly the run that the setting and the disturbance determine
   Answers (request.Run setting manner) outcome =
       (outcome ≡ Answered Yes) × HasAnswer (IsRunText issued gave setting) old new
       × (manner.playing ≡ InTurns → HasAnswer (IsTextInTurns setting manner.disturbance) old new)
-  -- the first run that no order was found for; or no, if there is none
   Answers (request.Search seeds setting disturbance) outcome = IsAnswerWith (IsSearched issued gave disturbance setting seeds.first seeds.last old new) outcome
-  -- the answer of a check, and its explanation
   Answers (request.Explain file form conflicts workers ruling page) outcome =
       names_input (option_map (λ t. t.now) file) ≡ true
       → IsAnswerWith (λ status. HasAnswer (ExplainsInForm form (name_of (option_map (λ t. t.now) file)) ruling conflicts input status) old new) outcome

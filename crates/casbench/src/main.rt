@@ -90,13 +90,17 @@ fn drawn_keys(rt: &impl RandomSource) -> HashKeys {
     HashKeys::new(u64::from_le_bytes(first), u64::from_le_bytes(second))
 }
 
-// Whether what is asked for takes long sometimes, and standard error is a terminal, where that may be said.
+// Whether a check is asked for, explained or not, and standard error is a terminal, where it says what it is doing.
 fn is_watched(rt: &impl Files, request: &Request<'_>) -> bool {
     match request {
         Request::Check { .. } | Request::CheckEach { .. } | Request::Explain { .. } => {
             is_terminal(rt, STANDARD_ERROR)
         }
-        _ => false,
+        Request::Witness { .. }
+        | Request::Verify { .. }
+        | Request::Bulk { .. }
+        | Request::Run(..)
+        | Request::Search(..) => false,
     }
 }
 

@@ -44,8 +44,9 @@ fn options_of(workers: u64, conflicts: Conflicts, ruling_out: RulingOut) -> Chec
 
 /// Does what the arguments ask for: opens the files in the order in which they were named, `-` being the
 /// input, then reads, and writes the answer. Workers run on `threads`; ids and pairs are found by hashes with
-/// these keys. A check notes what it is doing, and ends the line before it writes. Of a verify and a bulk, of which one
-/// text at least is a file, no clause says what is written: `report::verify_stream` and `report::bulk_stream` do.
+/// these keys. A check notes what it is doing, and clears the progress line before it writes the answer. No clause says
+/// what a file has, and so what is written of one, as of one text at least of a verify and a bulk: that what a file has
+/// is passed on is tested, not proved.
 ///
 /// Errors, in this order: `Read` if a file can't be opened, which is then named on standard error: nothing
 /// was read then; for an `explain` with a page `Write` if the page is the history's own file; then those of
@@ -64,7 +65,8 @@ pub fn run<R, T: Threads + Wait + Sync, I: Read + Send + Drop, W: Write>(
 where
     R: Files + Eprint + Clock + Sync,
     R::File: Send,
-    // The writer holds, after what it held, what answers the request, which came to this outcome.
+    // The writer holds, after what it held, what answers the request as far as it is about the input (`Answers`); the
+    // request came to this outcome.
     ensures answered { IfOk result (Answers ⟦<DisturbedGroup as Target>⟧.issued ⟦<DisturbedGroup as Target>⟧.gave
         (I.remaining input) (W.contents writer.old) (W.contents writer.new) request.now) }
     // After `Write` it holds a prefix of that.

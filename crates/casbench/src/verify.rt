@@ -16,8 +16,11 @@ use std::io::{Read, Write};
 use std::rt::Files;
 use std::time::Clock;
 
-// Checks the witness text of one reader against the history text of another, whose files have these names.
-fn verify_texts<C: Clock, R: Read, Q: Read, W: Write>(
+/// Checks the witness text of one reader against the history text of another, whose files have these names, and
+/// answers in this form.
+///
+/// Errors: those of `report::verify_stream`.
+pub fn verify_texts<C: Clock, R: Read, Q: Read, W: Write>(
     clock: &C,
     alloc: Global,
     keys: HashKeys,
@@ -29,13 +32,17 @@ fn verify_texts<C: Clock, R: Read, Q: Read, W: Write>(
     form: Form,
     conflicts: Conflicts,
 ) -> Result<Status, StreamFault>
+    // The writer holds, after what it held, what is written of these texts.
     ensures answered { IfOk result (λ status. HasAnswer (VerifiesInForm form name.now conflicts (R.remaining history.old) (Q.remaining witness.old) status)
         (W.contents writer.old) (W.contents writer.new)) }
+    // After `Write` it then holds a prefix of that.
     ensures cut_off { IsErrOf result StreamFault.Write
         → HasPrefix (VerifiesInForm form name.now conflicts (R.remaining history.old) (Q.remaining witness.old))
         (W.contents writer.old) (W.contents writer.new) }
+    // After any other error it holds what it held.
     ensures kept { IfErr result (λ fault. fault ≢ StreamFault.Write
         → Keeps (W.contents writer.old) (W.contents writer.new)) }
+    // The only errors are `Read`, `Write` and `NoMemory`.
     ensures reported { IfErr result IsStreamFault }
 {
     match form {

@@ -1,5 +1,5 @@
 -- What the arguments of the command line ask for. `Request` is what the code made of them.
-use Rattle.std.specs.Prelude.{ℕ, ◌==◌, Bool, true, List, Option, Some, None, ◌&&◌, ◌^◌, codes, if◌then◌else◌, [], ◌∷◌, length, map, nat_lt, option_and_then, option_map, slice_get, unwrap_or}
+use Rattle.std.specs.Prelude.{ℕ, ◌==◌, Bool, true, false, List, Option, Some, None, ◌&&◌, ◌^◌, codes, if◌then◌else◌, [], ◌∷◌, length, map, nat_lt, option_and_then, option_map, slice_get, unwrap_or}
 use Rattle.std.specs.Char.{digit_value}
 use Rattle.std.specs.List.{after_first, before_first, list_all, position_or_len}
 use Rattle.std.specs.Str.{bytes_eq}
@@ -104,23 +104,27 @@ abbrev pub number_or : ℕ → Option Text → Option ℕ
 number_or other None = Some other
 number_or other (Some text) = if is_number text then Some (digits_value 10 (without_leading_plus text)) else None
 
--- Objects if the option `--json` is given, whose text is then `true`; otherwise Lines
-abbrev pub form_given : Option Text → Form
-form_given None = Lines
-form_given (Some text) = if bytes_eq text (codes "true") then Objects else Lines
+-- whether an option without a value is given, whose text is then `true`
+-- Source: profile.
+abbrev pub flag_given : Option Text → Bool
+flag_given None = false
+flag_given (Some text) = bytes_eq text (codes "true")
 
--- On if the option `--rule-out` is given, whose text is then `true`; otherwise Off
+-- Objects if the option `--json` is given, otherwise Lines
+abbrev pub form_given : Option Text → Form
+form_given text = if flag_given text then Objects else Lines
+
+-- On if the option `--rule-out` is given, otherwise Off
 abbrev pub ruling_given : Option Text → RulingOut
-ruling_given None = Off
-ruling_given (Some text) = if bytes_eq text (codes "true") then On else Off
+ruling_given text = if flag_given text then On else Off
 
 -- the texts that the argument of this name was given, in their order
 -- Source: profile.
 abbrev pub texts_of : Text → List Row → List Text
 texts_of name rows = unwrap_or (all_of name rows) []
 
--- a check of the one file, or of standard input, if it answers in lines and there are fewer than two files; else a check
--- of each of them
+-- a check of the one file, or of standard input, if the form is Lines and there are fewer than two files; else a check of
+-- each of them
 -- Source: profile.
 abbrev pub to_check : Form → List Text → Conflicts → ℕ → RulingOut → ℕ → Asked
 to_check Objects files conflicts workers ruling at_least = ToCheckEach files Objects conflicts workers ruling at_least
@@ -240,10 +244,9 @@ disturbance_named (Some name) =
     else (if bytes_eq name (codes "promotions") then Some by.Promotions
     else (if bytes_eq name (codes "storm") then Some by.Storm else None)))
 
--- InTurns if the option `--in-turns` is given, whose text is then `true`; otherwise OnThreads
+-- InTurns if the option `--in-turns` is given, otherwise OnThreads
 abbrev pub playing_given : Option Text → Playing
-playing_given None = OnThreads
-playing_given (Some text) = if bytes_eq text (codes "true") then InTurns else OnThreads
+playing_given text = if flag_given text then InTurns else OnThreads
 
 -- how a run goes, if the disturbance is named or none is
 abbrev pub manner_given : List Row → Option Manner
@@ -336,6 +339,11 @@ number_rule name least most = record (option_rule name) { parser = Some (parser.
 abbrev pub needed_number_rule : Text → ℕ → ℕ → Rule
 needed_number_rule name least most = record (number_rule name least most) { required = true }
 
+-- a required number below 2^32, of this name
+-- Source: profile.
+abbrev pub small_rule : Text → Rule
+small_rule name = needed_number_rule name 0 4294967295
+
 -- an option without a value, of this name, which may be left out
 -- Source: profile.
 abbrev pub switch_rule : Text → Rule
@@ -346,11 +354,6 @@ switch_rule name = record (new_rule name) { long = Some name; action = Some SetT
 abbrev pub with_rules : App → List Rule → App
 with_rules command [] = command
 with_rules command (r ∷ rs) = with_rules (with_rule command r) rs
-
--- a required number below 2^32, of this name
--- Source: profile.
-abbrev pub small_rule : Text → Rule
-small_rule name = needed_number_rule name 0 4294967295
 
 -- the command `check`, which takes histories, which may be left out, `--conflicts`, `--workers`, from 1 to 16,
 -- `--rule-out`, `--at-least`, below 2^64, and `--json`
@@ -384,9 +387,9 @@ verify_command = with_rules (new_app (codes "verify")) (needed_rule (codes "hist
 abbrev pub bulk_command : App
 bulk_command = with_rules (new_app (codes "bulk")) (needed_rule (codes "body") ∷ needed_rule (codes "reply") ∷ number_rule (codes "first") 0 18446744073709551615 ∷ [])
 
--- The command `run`, which takes what the clients do: `--seed`, below 2^64, which may be left out, `--clients` and
--- `--calls`; what the group is: `--docs`, `--copies` and `--fault`; how the run goes: `--in-turns` and `--disturb`; and
--- which seeds are tried: `--until` and `--seeds`.
+-- The command `run`. It takes what the clients do: `--seed`, below 2^64, which may be left out, and `--clients` and
+-- `--calls`, below 2^32, both required; what the group is: `--docs` and `--copies`, below 2^32, and `--fault`, all
+-- required; how the run goes: `--in-turns` and `--disturb`; and which seeds are tried: `--until` and `--seeds`.
 -- Source: profile.
 abbrev pub run_command : App
 run_command =

@@ -20,10 +20,10 @@ pub enum Takes {
     Text,
     /// A text after its name.
     NeededText,
-    /// A number after its name, from the one to the other; it may be left out.
-    Number(u64, u64),
-    /// A number after its name, from the one to the other.
-    NeededNumber(u64, u64),
+    /// A number after its name, from `least` to `most`; it may be left out.
+    Number { least: u64, most: u64 },
+    /// A number after its name, from `least` to `most`.
+    NeededNumber { least: u64, most: u64 },
     /// Nothing: its name is given, or left out.
     Nothing,
 }
@@ -41,8 +41,8 @@ pub struct Argument<'a> {
 }
 
 impl<'a> Argument<'a> {
-    // Returns the argument with one text by its position.
-    fn file(&self, alloc: Global) -> Arg<'a>
+    // Returns the argument as one that takes a text by its position, as all do before more is said of them.
+    fn with_value(&self, alloc: Global) -> Arg<'a>
         ensures rule { rule_of result ≡ file_rule self.now.id.now }
         ensures local { result.global ≡ false }
     {
@@ -56,17 +56,17 @@ impl<'a> Argument<'a> {
         ensures rule { rule_of result ≡ rule_of_argument self.now }
         ensures local { result.global ≡ false }
     {
-        let file = self.file(alloc);
+        let argument = self.with_value(alloc);
         match self.takes {
-            Takes::File => file,
-            Takes::Files => file.action(ArgAction::Append),
-            Takes::NeededFile => file.required(true),
-            Takes::Text => file.long(self.id),
-            Takes::NeededText => file.long(self.id).required(true),
-            Takes::Number(least, most) => file
+            Takes::File => argument,
+            Takes::Files => argument.action(ArgAction::Append),
+            Takes::NeededFile => argument.required(true),
+            Takes::Text => argument.long(self.id),
+            Takes::NeededText => argument.long(self.id).required(true),
+            Takes::Number { least, most } => argument
                 .long(self.id)
                 .value_parser(ValueParser::Unsigned(least, most)),
-            Takes::NeededNumber(least, most) => file
+            Takes::NeededNumber { least, most } => argument
                 .long(self.id)
                 .value_parser(ValueParser::Unsigned(least, most))
                 .required(true),

@@ -1,7 +1,7 @@
 use crate::argument::{Argument, Takes};
 
-// The greatest of the numbers that a run is made with, as the parser of arguments takes them.
-const SMALL: u64 = 4_294_967_295;
+// The greatest number that a run's arguments may have; which of them are refused is said later.
+const GREATEST_OF_A_RUN: u64 = 4_294_967_295;
 
 /// The history text, which may be left out.
 pub const HISTORY: Argument<'static> = Argument {
@@ -56,7 +56,10 @@ pub const FIRST: Argument<'static> = Argument {
     id: "first",
     shown: "N",
     help: "The number of the first call; 0 by default",
-    takes: Takes::Number(0, u64::MAX),
+    takes: Takes::Number {
+        least: 0,
+        most: u64::MAX,
+    },
 };
 
 /// How a conflict is read.
@@ -72,7 +75,7 @@ pub const WORKERS: Argument<'static> = Argument {
     id: "workers",
     shown: "N",
     help: "How many workers search the documents, 1 to 16; 1 by default",
-    takes: Takes::Number(1, 16),
+    takes: Takes::Number { least: 1, most: 16 },
 };
 
 /// Whether documents are checked for being ruled out.
@@ -88,7 +91,10 @@ pub const AT_LEAST: Argument<'static> = Argument {
     id: "at-least",
     shown: "CALLS",
     help: "How many calls a history has to have: a yes with fewer gets status 6; 0 by default",
-    takes: Takes::Number(0, u64::MAX),
+    takes: Takes::Number {
+        least: 0,
+        most: u64::MAX,
+    },
 };
 
 /// Whether answers are written as objects of JSON.
@@ -128,7 +134,10 @@ pub const SEED: Argument<'static> = Argument {
     id: "seed",
     shown: "S",
     help: "The seed from which the plan of the clients, the steps of the group and its disturbances are drawn",
-    takes: Takes::Number(0, u64::MAX),
+    takes: Takes::Number {
+        least: 0,
+        most: u64::MAX,
+    },
 };
 
 /// The number of clients of a run.
@@ -136,7 +145,10 @@ pub const CLIENTS: Argument<'static> = Argument {
     id: "clients",
     shown: "A",
     help: "How many clients there are, 1 to 8",
-    takes: Takes::NeededNumber(0, SMALL),
+    takes: Takes::NeededNumber {
+        least: 0,
+        most: GREATEST_OF_A_RUN,
+    },
 };
 
 /// The number of calls that each of them makes.
@@ -144,7 +156,10 @@ pub const CALLS: Argument<'static> = Argument {
     id: "calls",
     shown: "B",
     help: "How many calls each client makes; 524,288 at most in all",
-    takes: Takes::NeededNumber(0, SMALL),
+    takes: Takes::NeededNumber {
+        least: 0,
+        most: GREATEST_OF_A_RUN,
+    },
 };
 
 /// The number of documents.
@@ -152,7 +167,10 @@ pub const DOCS: Argument<'static> = Argument {
     id: "docs",
     shown: "D",
     help: "How many documents there are, 1 to 1,024",
-    takes: Takes::NeededNumber(0, SMALL),
+    takes: Takes::NeededNumber {
+        least: 0,
+        most: GREATEST_OF_A_RUN,
+    },
 };
 
 /// The number of copies of the group.
@@ -160,7 +178,10 @@ pub const COPIES: Argument<'static> = Argument {
     id: "copies",
     shown: "E",
     help: "How many copies the group has, 1 to 5",
-    takes: Takes::NeededNumber(0, SMALL),
+    takes: Takes::NeededNumber {
+        least: 0,
+        most: GREATEST_OF_A_RUN,
+    },
 };
 
 /// What the group does wrong.

@@ -32,7 +32,7 @@ pub const RUN: &str = "run";
 /// The name of the command that checks a history, and explains what was found.
 pub const EXPLAIN: &str = "explain";
 
-// Returns the command with one more argument, which its subcommands don't take.
+// Returns the command with one more argument, which is not global.
 fn with_argument<'a>(command: Command<'a>, argument: Arg<'a>) -> Result<Command<'a>, AllocError>
     requires { argument.global ≡ false }
     ensures line { IfOk result (λ reported. app_of reported ≡ with_rule (app_of command.entry) (rule_of argument.entry)) }
@@ -94,7 +94,7 @@ const USAGES: &[Usage<'static>] = &[
 ];
 
 impl<'a> Usage<'a> {
-    // Returns the command. Its subcommands take none of its arguments.
+    // Returns the command. None of its arguments is global.
     fn to_command(&self, alloc: Global) -> Result<Command<'a>, AllocError>
         ensures line { IfOk result (λ command. app_of command ≡ command_by self.now) }
         ensures local { IfOk result (λ command. (fields_of command).has_globals ≡ false) }

@@ -1,7 +1,10 @@
-ghost use Rattle.std.specs.Prelude.{◌≡◌, option_map};
-ghost use Rattle.command_line.specs.Asked.{form_given};
+ghost use Rattle.std.specs.Prelude.{◌≡◌, codes};
+ghost use Rattle.clap.specs.Words.{first_of, found_of, rows_of};
+ghost use Rattle.command_line.specs.Asked.{form_given as form_by};
 
-use crate::request::GIVEN;
+use crate::arguments::JSON;
+use crate::given::is_given;
+use clap::ArgMatches;
 
 /// How answers are written.
 #[derive(Clone, Copy, PartialEq, Eq)]
@@ -12,13 +15,14 @@ pub enum Form {
     Objects,
 }
 
-/// Returns how answers are written: as objects if the option of that has this text.
-pub fn form_given(text: Option<&str>) -> Form
+/// Returns how answers are written by the matches of a command: as objects if `--json` is given.
+pub fn form_given(given: &ArgMatches<'_>) -> Form
     // It is that of the definition.
-    ensures { result ≡ form_given (option_map (λ t. t.now) text.entry) }
+    ensures { result ≡ form_by (first_of (codes "json") (rows_of (found_of given.now))) }
 {
-    match text {
-        Some(GIVEN) => Form::Objects,
-        _ => Form::Lines,
+    if is_given(given, JSON) {
+        Form::Objects
+    } else {
+        Form::Lines
     }
 }

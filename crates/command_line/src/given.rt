@@ -1,6 +1,6 @@
 ghost use Rattle.std.specs.Prelude.{◌≡◌, IfOk, map, option_map};
 ghost use Rattle.clap.specs.Words.{first_of, found_of, rows_of};
-ghost use Rattle.command_line.specs.Asked.{texts_of};
+ghost use Rattle.command_line.specs.Asked.{flag_given, texts_of};
 
 use crate::argument::Argument;
 use clap::ArgMatches;
@@ -24,5 +24,18 @@ pub fn texts_given<'a>(
     match given.get_strs(argument.id) {
         Some(texts) => Vec::from_slice(alloc, texts),
         None => Ok(Vec::new(alloc)),
+    }
+}
+
+// The text of an argument that takes nothing, if it is given.
+const GIVEN: &str = "true";
+
+/// Returns whether the argument is given, which takes nothing.
+pub fn is_given(given: &ArgMatches<'_>, argument: Argument<'_>) -> bool
+    ensures { result ≡ flag_given (first_of argument.entry.id.now (rows_of (found_of given.now))) }
+{
+    match text_given(given, argument) {
+        Some(GIVEN) => true,
+        _ => false,
     }
 }

@@ -1,12 +1,14 @@
-ghost use Rattle.std.specs.Prelude.{◌≡◌, ◌⊎◌, [], Some, None, IfOk, IfErr, OnOk, map, option_map};
-ghost use Rattle.clap.specs.Words.{FailsBy, HasKind, found_of, rows_of, subcommand_rows_of};
-ghost use Rattle.command_line.specs.Asked.{asked_by, asked_of, request_of_command, asked_on, bulk_of, check_of, checked_of, explain_of, faults_on, number_or as number_parsed, conflicts_named, ruling_given, verify_of, witness_of};
+ghost use Rattle.std.specs.Prelude.{◌≡◌, ◌⊎◌, [], Some, None, IfOk, IfErr, OnOk, codes, map, option_map};
+ghost use Rattle.clap.specs.Words.{FailsBy, HasKind, first_of, found_of, rows_of, subcommand_rows_of};
+ghost use Rattle.command_line.specs.Asked.{asked_by, asked_of, request_of_command, asked_on, bulk_of, check_of, checked_of, explain_of, faults_on, number_or as number_parsed, conflicts_named, ruling_given as ruling_by, verify_of, witness_of};
 
 use crate::arguments;
-use crate::arguments::{AT_LEAST, BODY, CONFLICTS, FIRST, HISTORY, JSON, REPLY, RULE_OUT, WORKERS};
+use crate::arguments::{
+    AT_LEAST, BODY, CONFLICTS, FIRST, HISTORIES, HISTORY, NEEDED_HISTORY, REPLY, RULE_OUT, WORKERS,
+};
 use crate::commands::{BULK, CHECK, EXPLAIN, RUN, VERIFY, WITNESS, program};
 use crate::form::{Form, form_given};
-use crate::given::{text_given, texts_given};
+use crate::given::{is_given, text_given, texts_given};
 use crate::page_request::{PageRequest, page_fault, page_given};
 use crate::run_request::{asked_run, unnamed_of_run};
 use clap::error::ErrorKind;
@@ -31,7 +33,7 @@ pub enum Request<'a> {
         at_least: u64,
     },
     /// To check each of some history texts in the same way: those of the files, in this order, or that of
-    /// standard input if there are none; in lines there are two or more.
+    /// standard input if there are none. If the form is `Lines`, there are two files or more.
     CheckEach {
         files: Vec<&'a str>,
         form: Form,
@@ -100,16 +102,14 @@ fn conflicts_named(name: Option<&str>) -> Option<Conflicts>
     }
 }
 
-/// The text of an option without a value, if the option is given.
-pub const GIVEN: &str = "true";
-
-// Returns whether documents are checked for being ruled out: if the option has the text.
-fn ruling_given(text: Option<&str>) -> RulingOut
-    ensures { result ≡ ruling_given (option_map (λ t. t.now) text.entry) }
+// Returns whether documents are checked for being ruled out, by the matches of a command: if `--rule-out` is given.
+fn ruling_given(given: &ArgMatches<'_>) -> RulingOut
+    ensures { result ≡ ruling_by (first_of (codes "rule-out") (rows_of (found_of given.now))) }
 {
-    match text {
-        Some(GIVEN) => RulingOut::On,
-        _ => RulingOut::Off,
+    if is_given(given, RULE_OUT) {
+        RulingOut::On
+    } else {
+        RulingOut::Off
     }
 }
 
@@ -133,9 +133,9 @@ fn check_request<'a>(files: Vec<&'a str>, given: &ArgMatches<'a>) -> Option<Requ
 {
     let conflicts = conflicts_named(text_given(given, CONFLICTS))?;
     let workers = number_or(1, text_given(given, WORKERS))?;
-    let ruling_out = ruling_given(text_given(given, RULE_OUT));
+    let ruling_out = ruling_given(given);
     let at_least = number_or(0, text_given(given, AT_LEAST))?;
-    let form = form_given(text_given(given, JSON));
+    let form = form_given(given);
     match form {
         Form::Lines if files.len() < 2 => Some(Request::Check {
             file: files.first().copied(),
@@ -161,9 +161,9 @@ fn witness_request<'a>(given: &ArgMatches<'a>) -> Option<Request<'a>>
 {
     Some(Request::Witness {
         file: text_given(given, HISTORY),
-        form: form_given(text_given(given, JSON)),
+        form: form_given(given),
         conflicts: conflicts_named(text_given(given, CONFLICTS))?,
-        ruling_out: ruling_given(text_given(given, RULE_OUT)),
+        ruling_out: ruling_given(given),
     })
 }
 
@@ -172,9 +172,9 @@ fn verify_request<'a>(given: &ArgMatches<'a>) -> Option<Request<'a>>
     ensures { option_map asked_by result ≡ verify_of (rows_of (found_of given.now)) }
 {
     Some(Request::Verify {
-        history: text_given(given, HISTORY)?,
+        history: text_given(given, NEEDED_HISTORY)?,
         witness: text_given(given, arguments::WITNESS)?,
-        form: form_given(text_given(given, JSON)),
+        form: form_given(given),
         conflicts: conflicts_named(text_given(given, CONFLICTS))?,
     })
 }
@@ -197,10 +197,10 @@ fn explain_request<'a>(given: &ArgMatches<'a>) -> Option<Request<'a>>
 {
     Some(Request::Explain {
         file: text_given(given, HISTORY),
-        form: form_given(text_given(given, JSON)),
+        form: form_given(given),
         conflicts: conflicts_named(text_given(given, CONFLICTS))?,
         workers: number_or(1, text_given(given, WORKERS))?,
-        ruling_out: ruling_given(text_given(given, RULE_OUT)),
+        ruling_out: ruling_given(given),
         page: page_given(given)?,
     })
 }
@@ -216,7 +216,7 @@ fn request_of_command<'a>(
 {
     match name {
         CHECK => {
-            let files = texts_given(alloc, given, HISTORY)?;
+            let files = texts_given(alloc, given, HISTORIES)?;
             Ok(check_request(files, given))
         }
         WITNESS => Ok(witness_request(given)),

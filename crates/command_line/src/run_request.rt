@@ -5,8 +5,8 @@ ghost use Rattle.command_line.specs.Asked.{asked_by, disturbance_named as distur
 use crate::arguments::{
     CALLS, CLIENTS, COPIES, DISTURB, DOCS, FAULT, IN_TURNS, SEED, SEEDS, UNTIL,
 };
-use crate::given::text_given;
-use crate::request::{GIVEN, Request, number_or};
+use crate::given::{is_given, text_given};
+use crate::request::{Request, number_or};
 use clap::ArgMatches;
 use disturbances::Disturbance;
 use recorded_runs::{Manner, Playing, RunSetting, Seeds};
@@ -105,13 +105,14 @@ pub fn disturbance_name(disturbance: Disturbance) -> &'static str
     }
 }
 
-// Returns how the clients are played: in turns, if the option for turns has the text that says it is given.
-fn playing_given(text: Option<&str>) -> Playing
-    ensures { result ≡ playing_by (option_map (λ t. t.now) text.entry) }
+// Returns how the clients are played by the matches of the command: in turns if `--in-turns` is given.
+fn playing_given(given: &ArgMatches<'_>) -> Playing
+    ensures { result ≡ playing_by (first_of (codes "in-turns") (rows_of (found_of given.now))) }
 {
-    match text {
-        Some(GIVEN) => Playing::InTurns,
-        _ => Playing::OnThreads,
+    if is_given(given, IN_TURNS) {
+        Playing::InTurns
+    } else {
+        Playing::OnThreads
     }
 }
 
@@ -127,7 +128,7 @@ fn manner_given(given: &ArgMatches<'_>) -> Option<Manner>
     ensures { result ≡ manner_by (rows_of (found_of given.now)) }
 {
     Some(Manner {
-        playing: playing_given(text_given(given, IN_TURNS)),
+        playing: playing_given(given),
         disturbance: disturbance_given(given)?,
     })
 }

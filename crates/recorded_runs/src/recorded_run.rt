@@ -33,13 +33,6 @@ fn is_plan_refused(plan: &Result<Plan, PlanFault>) -> bool
     matches!(plan, Err(PlanFault::Zero | PlanFault::TooMany))
 }
 
-// Whether the number of copies is refused.
-fn is_core_refused(core: &Result<DisturbedCore, CoreFault>) -> bool
-    ensures { result ≡ reports_copies core.now }
-{
-    matches!(core, Err(CoreFault::Copies))
-}
-
 // The group of the setting, under the schedule of the disturbance. The length of the schedule is the number
 // of all calls.
 fn core_of(
@@ -84,13 +77,13 @@ fn plan_and_core(
     if is_plan_refused(&plan) {
         return Err(StreamFault::Setting);
     }
-    let core = core_of(alloc, setting, disturbance);
-    if is_core_refused(&core) {
-        return Err(StreamFault::Setting);
-    }
-    match (plan, core) {
-        (Ok(plan), Ok(core)) => Ok((plan, core)),
-        _ => Err(StreamFault::NoMemory),
+    match core_of(alloc, setting, disturbance) {
+        Ok(core) => match plan {
+            Ok(plan) => Ok((plan, core)),
+            Err(_) => Err(StreamFault::NoMemory),
+        },
+        Err(CoreFault::NoMemory) => Err(StreamFault::NoMemory),
+        Err(CoreFault::Copies) => Err(StreamFault::Setting),
     }
 }
 

@@ -27,7 +27,7 @@ use std::alloc::Global;
 use std::io::Read;
 use std::sync::Wait;
 use std::thread::Threads;
-use story::{EventLines, Kept};
+use story::{EventLines, Kept, time_text};
 use stream_io::{Status, StreamFault};
 use version_pair::NoMemory;
 
@@ -113,7 +113,7 @@ fn broken_reply_of(
     };
     let reply = lines.line(offence.event);
     let time = match reply.time {
-        Some(time) => Some(format!(in alloc; "{time:.3}")?),
+        Some(time) => Some(time_text(alloc, time)?),
         None => None,
     };
     Ok(Some(BrokenReply {
@@ -200,7 +200,7 @@ pub fn history_details<T: Threads + Wait + Sync>(
 }
 
 /// Returns what a check finds in the text of a reader, piece by piece: what the line of `check_stream` reports
-/// of it, and what is known beside, with as much of what its lines say as is kept. It writes nothing.
+/// of it, and what is known beside. `kept` says what is kept of the lines. It writes nothing.
 ///
 /// Errors, whichever comes first: `Read`, `NoMemory`, `Worker`. It waits as `check_stream` does.
 pub fn check_details<T: Threads + Wait + Sync, R: Read>(

@@ -15,8 +15,8 @@ pub enum CheckStage {
     Ended,
 }
 
-/// The stage that a check has reached, at which other threads may look meanwhile; of several checks that share it, one
-/// that one of them has reached.
+/// The stage that a check has reached. Other threads may read it meanwhile. If several checks share it, it is the stage
+/// noted last.
 #[derive(Drop)]
 pub struct CheckProgress {
     // The stage by its position in `CheckStage`.
@@ -24,7 +24,7 @@ pub struct CheckProgress {
 }
 
 impl CheckProgress {
-    /// Returns that of a check that begins.
+    /// Returns the progress of a check that hasn't begun.
     pub fn new() -> CheckProgress {
         CheckProgress {
             reached: AtomicU64::new(0),

@@ -10,7 +10,7 @@ use disturbances::{Disturbance, DisturbedGroup};
 use doc_register::Conflicts;
 use history::write;
 use recorded_runs::{Manner, Playing, RunSetting, Seeds, run_history};
-use report::{CheckOptions, Progress, RulingOut, history_answer};
+use report::{CheckOptions, CheckProgress, RulingOut, history_answer};
 use std::alloc::Global;
 use std::io::Write;
 use std::sync::Wait;
@@ -40,7 +40,7 @@ fn judged_run<T: Threads + Wait + Sync>(
     };
     let history = run_history(rt, alloc, setting, &manner)?;
     let text = write(alloc, &history)?;
-    let progress = Progress::new();
+    let progress = CheckProgress::new();
     let options = CheckOptions {
         workers: 1,
         conflicts: Conflicts::Plain,

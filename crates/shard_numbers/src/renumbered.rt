@@ -1,7 +1,7 @@
 use crate::renumbered::free_numbers::{FreeNumbers, pair_after};
 use crate::renumbered::gaps::{Gap, Gaps};
 use crate::renumbered::names::Names;
-use crate::renumbered::tight::{Filled, tight_set};
+use crate::renumbered::tight::{Filled, ListedGap, tight_set};
 use crate::used_pairs::UsedPairs;
 use events::HashKeys;
 use places::DocWitness;
@@ -79,6 +79,31 @@ impl GapNumbering<'_> {
         }
         Ok(Some(pairs))
     }
+
+    // Gives the gaps their pairs, the one with the least upper end first, up to one that has too few, which is
+    // returned.
+    fn fill_all<'g>(
+        &mut self,
+        alloc: Global,
+        gaps: &'g Gaps,
+        filled: &mut Vec<Filled<'g>>,
+    ) -> Result<Option<ListedGap<'g>>, NoMemory> {
+        let ends = gaps_by_end(alloc, gaps)?;
+        for (_, _, number) in &ends {
+            let Some(gap) = gaps.list.get(*number) else {
+                continue;
+            };
+            let listed = ListedGap {
+                number: *number,
+                gap,
+            };
+            let Some(pairs) = self.fill(alloc, gap)? else {
+                return Ok(Some(listed));
+            };
+            filled.push(Filled { listed, pairs })?;
+        }
+        Ok(None)
+    }
 }
 
 // Returns the shards, the upper ends and the indices of the gaps, in this order.
@@ -95,9 +120,9 @@ fn gaps_by_end(alloc: Global, gaps: &Gaps) -> Result<Vec<(u32, Pair, usize)>, No
 fn changes_to(alloc: Global, filled: &[Filled]) -> Result<Vec<Change>, NoMemory> {
     let mut changes = Vec::new(alloc);
     for entry in filled {
-        for (place, pair) in entry.gap.places.iter().zip(entry.pairs.iter()) {
+        for (place, pair) in entry.listed.gap.places.iter().zip(entry.pairs.iter()) {
             changes.push(Change {
-                witness: entry.gap.witness,
+                witness: entry.listed.gap.witness,
                 place: *place,
                 pair: *pair,
             })?;
@@ -123,29 +148,16 @@ pub enum GapNumbers {
 fn numbers_in(
     alloc: Global,
     gaps: &Gaps,
-    numbering: GapNumbering<'_>,
+    numbering: &mut GapNumbering<'_>,
 ) -> Result<GapNumbers, NoMemory> {
-    let mut numbering = numbering;
     for (shard, pair) in &gaps.kept {
         numbering.free.give(*shard, *pair)?;
     }
     let mut filled = Vec::new(alloc);
-    for (_, _, number) in &gaps_by_end(alloc, gaps)? {
-        let Some(gap) = gaps.list.get(*number) else {
-            continue;
-        };
-        match numbering.fill(alloc, gap)? {
-            Some(pairs) => filled.push(Filled {
-                number: *number,
-                gap,
-                pairs,
-            })?,
-            None => {
-                return Ok(GapNumbers::Short(tight_set(alloc, &filled, *number, gap)?));
-            }
-        }
+    match numbering.fill_all(alloc, gaps, &mut filled)? {
+        Some(failed) => Ok(GapNumbers::Short(tight_set(alloc, &filled, failed)?)),
+        None => Ok(GapNumbers::Given(changes_to(alloc, &filled)?)),
     }
-    Ok(GapNumbers::Given(changes_to(alloc, &filled)?))
 }
 
 /// Returns numbers for all gaps of the witnesses, over all documents of a shard, the gap with the least upper
@@ -167,12 +179,12 @@ pub fn numbers_of(
     let names = Names::of(alloc, keys, witnesses, gaps, used)?;
     let mut numbers = GapNumbers::Short(Vec::new(alloc));
     for avoids in [true, false] {
-        let numbering = GapNumbering {
+        let mut numbering = GapNumbering {
             free: FreeNumbers::without(alloc, keys, used),
             names: &names,
             avoids,
         };
-        numbers = numbers_in(alloc, gaps, numbering)?;
+        numbers = numbers_in(alloc, gaps, &mut numbering)?;
         if matches!(&numbers, GapNumbers::Given(_)) {
             break;
         }

@@ -21,7 +21,7 @@ mod timeline;
 
 pub use describing::{explained_story, refused_story};
 pub use failing::failing_story;
-pub use line_time::written_at;
+pub use line_time::{time_text, written_at};
 pub use numbered_input::{Kept, read_numbered_from};
 pub use story_blocks::{About, EventLines, Story, View, page_of, plain_text};
 pub use story_reasons::{Explained, OrderSearch, Subjects, Unexplained};

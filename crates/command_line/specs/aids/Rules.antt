@@ -1,4 +1,4 @@
--- The rules of arguments and commands, by what the code has of them: aids of the contracts by which they are built.
+-- The rules that an `Argument` and a `Usage` of the code stand for.
 use Rattle.std.specs.Prelude.{map}
 use Rattle.clap.specs.Words.{App, Rule, Text, new_app}
 use Rattle.command_line.specs.declared.argument.Argument.{Argument}

@@ -3,12 +3,17 @@ use completing::PairRange;
 use std::alloc::Global;
 use version_pair::{NoMemory, Pair};
 
+/// A gap with its index in the list.
+#[derive(Clone, Copy)]
+pub struct ListedGap<'a> {
+    pub number: usize,
+    pub gap: &'a Gap,
+}
+
 /// The pairs that a gap was given.
 #[derive(Drop)]
 pub struct Filled<'a> {
-    /// The index of the gap in the list.
-    pub number: usize,
-    pub gap: &'a Gap,
+    pub listed: ListedGap<'a>,
     pub pairs: Vec<Pair>,
 }
 
@@ -42,28 +47,27 @@ impl Span {
 }
 
 /// Returns the gaps that together want more numbers than are free between their ends, by their indices in the
-/// list: the one that found none, given with its index, and those that were given numbers between its ends,
-/// between the ends of these, and so on.
+/// list: the one that found none, and those that were given numbers between its ends, between the ends of these,
+/// and so on.
 pub fn tight_set(
     alloc: Global,
     filled: &[Filled],
-    failed: usize,
-    gap: &Gap,
+    failed: ListedGap,
 ) -> Result<Vec<usize>, NoMemory> {
     let mut tight = Vec::new(alloc);
-    tight.push(failed)?;
+    tight.push(failed.number)?;
     let mut span = Span {
-        shard: gap.shard,
-        numbers: gap.numbers,
+        shard: failed.gap.shard,
+        numbers: failed.gap.numbers,
     };
     let mut is_in = vec![in alloc; false; filled.len()]?;
     for _ in 0..MOST_ROUNDS {
         let before = tight.len();
         for (entry, flag) in filled.iter().zip(is_in.iter_mut()) {
-            if !*flag && span.touches(entry.gap, &entry.pairs) {
+            if !*flag && span.touches(entry.listed.gap, &entry.pairs) {
                 *flag = true;
-                tight.push(entry.number)?;
-                span = span.with(entry.gap);
+                tight.push(entry.listed.number)?;
+                span = span.with(entry.listed.gap);
             }
         }
         if tight.len() == before {
