@@ -96,6 +96,47 @@ pub fn refusal(alloc: Global, fault: TextFault) -> Result<AnswerText, NoMemory>
     Ok(AnswerText::of(Status::Refused, line))
 }
 
+// Returns the verdict on a history, which the caller's thread searches.
+fn verdict_alone(
+    alloc: Global,
+    history: History,
+    conflicts: Conflicts,
+) -> Result<Verdict, StreamFault>
+    ensures verdict { IfOk result (IsVerdictOn conflicts history) }
+    ensures reported { IfErr result (λ fault. fault ≡ StreamFault.NoMemory) }
+{
+    match check_alone(alloc, history, conflicts) {
+        Ok(verdict) => Ok(verdict),
+        Err(_) => Err(StreamFault::NoMemory),
+    }
+}
+
+// Returns the verdict on a history, which so many workers search.
+fn verdict_by_workers<R: Threads + Wait + Sync>(
+    rt: &R,
+    alloc: Global,
+    history: History,
+    workers: usize,
+    conflicts: Conflicts,
+) -> Result<Verdict, StreamFault>
+    requires { AreWorkers workers }
+    ensures verdict { IfOk result (IsVerdictOn conflicts history) }
+    ensures reported { IfErr result IsCheckFault }
+    ensures unread { IfErr result (λ fault. fault ≢ StreamFault.Read) }
+    ensures named { IfErr result (HasDocument history) }
+{
+    match check(rt, alloc, history, workers, conflicts, &NoGate) {
+        Ok(verdict) => Ok(verdict),
+        Err(CheckFault::NoMemory(_)) => Err(StreamFault::NoMemory),
+        Err(CheckFault::Pool(fault, _)) => match fault {
+            PoolFault::Lost(doc) | PoolFault::Double(doc) | PoolFault::Stranger(doc) => {
+                Err(StreamFault::Worker(doc))
+            }
+            PoolFault::NoMemory | PoolFault::NoWorkers | PoolFault::TooMany => unreachable!(),
+        },
+    }
+}
+
 /// Returns the verdict on a history, with these options.
 pub fn verdict_by<R: Threads + Wait + Sync>(
     rt: &R,
@@ -116,20 +157,9 @@ pub fn verdict_by<R: Threads + Wait + Sync>(
         ..
     } = options;
     if workers == 1 {
-        return match check_alone(alloc, history, conflicts) {
-            Ok(verdict) => Ok(verdict),
-            Err(_) => Err(StreamFault::NoMemory),
-        };
-    }
-    match check(rt, alloc, history, workers, conflicts, &NoGate) {
-        Ok(verdict) => Ok(verdict),
-        Err(CheckFault::NoMemory(_)) => Err(StreamFault::NoMemory),
-        Err(CheckFault::Pool(fault, _)) => match fault {
-            PoolFault::Lost(doc) | PoolFault::Double(doc) | PoolFault::Stranger(doc) => {
-                Err(StreamFault::Worker(doc))
-            }
-            PoolFault::NoMemory | PoolFault::NoWorkers | PoolFault::TooMany => unreachable!(),
-        },
+        verdict_alone(alloc, history, conflicts)
+    } else {
+        verdict_by_workers(rt, alloc, history, workers, conflicts)
     }
 }
 

@@ -89,6 +89,18 @@ fn reasons_before(
     }
 }
 
+// Returns the explanation of what is said of a history for which no order was found.
+fn story_from(
+    alloc: Global,
+    unexplained: &Unexplained<'_>,
+    lines: &EventLines,
+    view: Option<&View<'_>>,
+    searches: &Searches,
+) -> Result<Story, NoMemory> {
+    let subjects = Subjects::of(alloc, unexplained)?;
+    failing_story(alloc, &subjects, lines, searches, view)
+}
+
 // Returns the explanation of a history for which no order was found.
 fn story_of_case(
     alloc: Global,
@@ -108,8 +120,8 @@ fn story_of_case(
     if earlier.is_none() {
         return failing_story(alloc, &subjects, lines, &searches, view);
     }
-    let subjects = Subjects::of(alloc, &unexplained_of(case, failing, certainty, &earlier))?;
-    failing_story(alloc, &subjects, lines, &searches, view)
+    let before = unexplained_of(case, failing, certainty, &earlier);
+    story_from(alloc, &before, lines, view, &searches)
 }
 
 /// Returns the explanation of a history.

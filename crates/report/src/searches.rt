@@ -40,12 +40,23 @@ impl OrderSearch for Searches {
     ) -> Result<Vec<u8>, NoMemory> {
         let copy = history.prefix(history.len())?;
         match check_alone(alloc, copy, conflicts) {
-            Ok(Verdict::Yes(proof)) => Ok(yes_line(alloc, Counts::of(&proof))?.into_bytes()),
-            Ok(Verdict::No(case)) => {
-                let (answer, _) = case_answer(alloc, &case, self.ruling_out)?;
-                Ok(answer.text)
-            }
+            Ok(verdict) => verdict_line(alloc, &verdict, self.ruling_out),
             Err(_) => Err(AllocError),
+        }
+    }
+}
+
+// Returns the line that a check writes for this verdict.
+fn verdict_line(
+    alloc: Global,
+    verdict: &Verdict,
+    ruling_out: RulingOut,
+) -> Result<Vec<u8>, NoMemory> {
+    match verdict {
+        Verdict::Yes(proof) => Ok(yes_line(alloc, Counts::of(proof))?.into_bytes()),
+        Verdict::No(case) => {
+            let (answer, _) = case_answer(alloc, case, ruling_out)?;
+            Ok(answer.text)
         }
     }
 }
