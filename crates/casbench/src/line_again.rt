@@ -1,13 +1,34 @@
+use memchr::memchr;
 use report::{BrokenReply, Kept, written_at};
 use std::alloc::{AllocError, Global};
 use std::io::{self, BufRead, BufReader, ErrorKind, Read, Seek};
+
+// The most pieces in which a line is passed over: one for each byte of the longest that a history text has.
+const MOST_PIECES: usize = 65_538;
+
+// Passes over the next line, its line feed included.
+fn skip_line<R: Read>(reader: &mut BufReader<R>) -> io::Result<()> {
+    for _ in 0..MOST_PIECES {
+        let held = reader.fill_buf()?;
+        let end = memchr(b'\n', held);
+        let passed = match end {
+            Some(at) => at + 1,
+            None => held.len(),
+        };
+        reader.consume(passed);
+        if end.is_some() || passed == 0 {
+            return Ok(());
+        }
+    }
+    Ok(())
+}
 
 // Returns the line of the text with this number, from 1, without its line feed; an empty one if it has fewer.
 fn line_again<S: Read + Seek>(alloc: Global, source: &mut S, number: u64) -> io::Result<Vec<u8>> {
     source.rewind()?;
     let mut reader = BufReader::new(alloc, source)?;
     for _ in 1..number {
-        reader.skip_until(b'\n')?;
+        skip_line(&mut reader)?;
     }
     let mut line = Vec::new(alloc);
     reader.read_until(b'\n', &mut line)?;
