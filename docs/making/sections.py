@@ -89,6 +89,7 @@ SECTIONS = (
             "covers/specs/Answered.antt",
             "compose/specs/VerifyFaults.antt",
             "places/specs/Faults.antt",
+            "write_chain/specs/AnsweredCalls.antt",
             "write_chain/specs/Chain.antt",
             "doc_check/specs/ReplyOrder.antt",
             "doc_check/specs/NoOrders.antt",

@@ -5,7 +5,7 @@ ghost use Rattle.std.specs.Io.KnownBytes.{Keeps};
 ghost use Rattle.doc_register.specs.declared.state.Conflicts.{Conflicts as Reading};
 ghost use Rattle.evidence.specs.declared.ruling_out.RulingOut.{RulingOut as Ruling};
 ghost use Rattle.casbench.specs.Objects.{ExplainsInJson, IsObjectOn, IsWitnessInJson, VerifiesInJson, WitnessesInJson};
-ghost use Rattle.report.specs.Details.{IsProvedOf};
+ghost use Rattle.report.specs.Details.{IsOfVerify, IsProvedOf};
 ghost use Rattle.report.specs.Verdict.{LeavesUnread};
 ghost use Rattle.report.specs.Witnessed.{IsWitnessedBy};
 ghost use Rattle.result_lines.specs.Objects.{line_of};
@@ -106,14 +106,14 @@ pub fn witness_in_json<C: Clock, R: Read, W: Write>(
     write_answer(writer, &answer)
 }
 
-// Returns whether it is proved that an order explains the history, if that is answered.
+// Returns what is said to be proved of what a verify reports.
 fn proved_of(reported: &Reported) -> Option<bool>
+    requires { IsOfVerify reported.now }
     ensures { (conflicts : Reading) (input : List ℕ) → IsProvedOf conflicts input reported.now result }
 {
     match reported {
-        Reported::Yes(_) | Reported::Verified(_) => Some(true),
-        Reported::No(_) | Reported::Refuted(..) | Reported::Broken(_) => None,
-        Reported::Refused(_) | Reported::RefusedHistory(_) | Reported::RefusedWitness(_) => None,
+        Reported::Verified(_) => Some(true),
+        _ => None,
     }
 }
 
@@ -125,6 +125,7 @@ fn verified_object<'a>(
     reported: &Reported,
     milliseconds: Option<u64>,
 ) -> Result<Vec<u8>, AllocError>
+    requires { IsOfVerify reported.now }
     ensures { IfOk result (λ text. (conflicts : Reading) (input : List ℕ)
         → IsObjectOn conflicts name.now (Just input) (line_of reported.now) text.items) }
 {

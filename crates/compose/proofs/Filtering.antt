@@ -1,7 +1,7 @@
 -- The part of a list that passes a test, and the places of its elements.
 use Rattle.std.proofs.Common.{ℕ, zero, suc, ◌≡◌, ◌<◌, ◌⊎◌, inl, inr, List, [], ◌∷◌, ◌++◌, map, refl, sym, ap, subst, ◌∙◌, arith, Bool, true, false, cond, Some, slice_get}
 use Rattle.std.specs.Prelude.{filter}
-use Rattle.doc_check.proofs.Lists.{Has}
+use Rattle.version_pair.proofs.SortedLists.{Has}
 use Rattle.evidence.proofs.FilterLemmas.{kept_from}
 use Rattle.version_pair.proofs.ListLemmas.{compare, none_is_not_some, same_some}
 

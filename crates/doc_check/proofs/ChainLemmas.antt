@@ -12,7 +12,7 @@ use Rattle.std.proofs.lemmas.Option.{slice_get_within}
 use Rattle.version_pair.proofs.ListLemmas.{compare, get_within, none_is_not_some, same_some}
 use Rattle.write_chain.specs.Chain.{IsChain, Rises, by_pair, link_at, pair_cmp, performed_records}
 use Rattle.events.specs.Heard.{pair_of}
-use Rattle.doc_check.proofs.Lists.{Has, KeyOnce, KeyRises, not_below_then, once_moved, same_rising, sorted_at}
+use Rattle.version_pair.proofs.SortedLists.{Has, KeyOnce, KeyRises, not_below_then, once_moved, same_rising, sorted_at}
 use Rattle.doc_register.proofs.RunLemmas.{below_trans, not_both_below}
 
 abbrev Link : Type 0

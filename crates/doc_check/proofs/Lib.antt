@@ -1,4 +1,3 @@
-pub mod Lists
 mod ChainLemmas
 mod PlacesLemmas
 mod StretchLemmas

@@ -1,9 +1,9 @@
 -- The order of the sweep is valid: it performs the chain, with each call in a stretch that it fits and none too late.
-use Rattle.std.proofs.Common.{ℕ, zero, suc, ◌≡◌, ◌<◌, ◌≤◌, ◌+◌, ◌-◌, inl, inr, List, [], ◌∷◌, length, map, refl, sym, ap, subst, ◌∙◌, arith, false, Option, Some, None, slice_get, Ordering}
-use Rattle.std.specs.Prelude.{IsPermutation, IsSorted, IsSome, option_map}
-use Rattle.std.specs.Cmp.{IsTotalOrder}
-use Rattle.std.specs.Ordering.{nat_cmp, ordering_then, is_lt}
-use Rattle.std.specs.declared.cmp.Ordering.TheVariants.{Less, Equal, Greater}
+use Rattle.std.proofs.Common.{ℕ, zero, suc, ◌≡◌, ◌<◌, ◌≤◌, ◌+◌, ◌-◌, inl, inr, List, [], ◌∷◌, length, map, refl, sym, ap, subst, ◌∙◌, arith, true, false, Option, Some, None, slice_get}
+use Rattle.std.specs.Prelude.{IsPermutation, IsSorted, IsSome, IsTrue, option_map}
+use Rattle.std.specs.Cmp.{IsTotalOrder, bool_cmp_total}
+use Rattle.std.specs.Ordering.{bool_cmp, nat_cmp, ordering_then, is_lt}
+use Rattle.std.specs.declared.cmp.Ordering.TheVariants.{Equal}
 use Rattle.std.proofs.lemmas.Bool.{cases_lt, true≢false}
 use Rattle.std.proofs.lemmas.Cmp.{nat_cmp_total, on_total, then_total, tied_itself}
 use Rattle.std.proofs.lemmas.Option.{slice_get-map}
@@ -20,53 +20,54 @@ use Rattle.places.specs.Places.{AreValidSoFar, AreValid, GivesAsMay, IsHeardBefo
 use Rattle.doc_check.specs.NoOrders.{AreUnpaired}
 use Rattle.write_chain.specs.Chain.{IsChain, Rises, performed_records}
 use Rattle.events.specs.Heard.{pair_of}
-use Rattle.doc_check.specs.aids.Order.{IsStretchOrder, StretchKey, by_standing, place_of, standing_made, standings_from, turn, with_standing}
+use Rattle.doc_check.specs.declared.order.StretchKey.{StretchKey}
+use Rattle.doc_check.specs.aids.Order.{IsStretchOrder, by_standing, is_later, key_of, place_of, standing_made, standings_from, with_standing}
 use Rattle.doc_check.specs.aids.Stretches.{FitsAs, ReadFits, WriteFits, cap, state_in, states_of}
 use Rattle.doc_check.specs.aids.Sweep.{AreGiven, AreSpread, IsGiven}
-use Rattle.doc_check.proofs.Lists.{Has, KeyOnce, KeyRises, has_back, has_moved, not_below, not_below_then, once_moved, sorted_at}
+use Rattle.version_pair.proofs.SortedLists.{Has, KeyOnce, KeyRises, flags_up, has_back, has_moved, not_below, not_below_then, once_moved, sorted_at, then_not}
 use Rattle.doc_check.proofs.ChainLemmas.{link_record}
 use Rattle.doc_check.proofs.StretchLemmas.{one_place}
 
 -- ---- which standings there are
 
 standing_has : (rs : List Rec) (gs : List (Option ℕ)) (k i j : ℕ) (r : Rec) (h : ℕ × Reply) → slice_get rs i ≡ Some r → r.heard ≡ Some h → slice_get gs i ≡ Some (Some j)
-    → Has (standings_from k rs gs) (j, turn (pair_of (Some h)), h.0, k + i)
+    → Has (standings_from k rs gs) (key_of j (is_later (pair_of (Some h))) h.0 (k + i))
 standing_has [] gs k i j r h at is given = absurd (none_is_not_some r at)
 standing_has (s ∷ rs) [] k i j r h at is given = absurd (none_is_not_some (Some j) given)
 standing_has (s ∷ rs) (g ∷ gs) k zero j r h at is given =
     let number : k ≡ k + 0 = omega arith in
-    let made : standing_made k s.heard g ≡ Some (j, turn (pair_of (Some h)), h.0, k) =
+    let made : standing_made k s.heard g ≡ Some (key_of j (is_later (pair_of (Some h))) h.0 k) =
     ap (λ o. standing_made k o g) (ap (λ t. t.heard) (same_some s r at) ∙ is) ∙ ap (standing_made k (Some h)) (same_some g (Some j) given) in
-    subst (λ o. Has (with_standing o (standings_from (suc k) rs gs)) (j, turn (pair_of (Some h)), h.0, k + 0)) (sym made)
-    (0, ap (λ n. Some (j, turn (pair_of (Some h)), h.0, n)) number)
+    subst (λ o. Has (with_standing o (standings_from (suc k) rs gs)) (key_of j (is_later (pair_of (Some h))) h.0 (k + 0))) (sym made)
+    (0, ap (λ n. Some (key_of j (is_later (pair_of (Some h))) h.0 n)) number)
 standing_has (s ∷ rs) (g ∷ gs) k (suc i) j r h at is given = by_made (standing_made k s.heard g) (standing_has rs gs (suc k) i j r h at is given) where
-  by_made : (o : Option StretchKey) → Has (standings_from (suc k) rs gs) (j, turn (pair_of (Some h)), h.0, suc k + i)
-      → Has (with_standing o (standings_from (suc k) rs gs)) (j, turn (pair_of (Some h)), h.0, k + suc i)
-  by_made None has = (has.0, has.1 ∙ ap (λ n. Some (j, turn (pair_of (Some h)), h.0, n)) (let e : suc k + i ≡ k + suc i = omega arith in e))
-  by_made (Some o) has = (suc has.0, has.1 ∙ ap (λ n. Some (j, turn (pair_of (Some h)), h.0, n)) (let e : suc k + i ≡ k + suc i = omega arith in e))
+  by_made : (o : Option StretchKey) → Has (standings_from (suc k) rs gs) (key_of j (is_later (pair_of (Some h))) h.0 (suc k + i))
+      → Has (with_standing o (standings_from (suc k) rs gs)) (key_of j (is_later (pair_of (Some h))) h.0 (k + suc i))
+  by_made None has = (has.0, has.1 ∙ ap (λ n. Some (key_of j (is_later (pair_of (Some h))) h.0 n)) (let e : suc k + i ≡ k + suc i = omega arith in e))
+  by_made (Some o) has = (suc has.0, has.1 ∙ ap (λ n. Some (key_of j (is_later (pair_of (Some h))) h.0 n)) (let e : suc k + i ≡ k + suc i = omega arith in e))
 
 -- the record of a standing
 record IsOf (rs : List Rec) (gs : List (Option ℕ)) (k : ℕ) (s : StretchKey) : Type 0 where
   from : ℕ
   record_of : Rec
   heard_of : ℕ × Reply
-  number : s.3 ≡ k + from
+  number : s.rec ≡ k + from
   at : slice_get rs from ≡ Some record_of
   heard : record_of.heard ≡ Some heard_of
-  given : slice_get gs from ≡ Some (Some s.0)
-  turn_is : s.1 ≡ turn (pair_of record_of.heard)
-  reply : s.2 ≡ heard_of.0
+  given : slice_get gs from ≡ Some (Some s.stretch)
+  after_is : s.follows_write ≡ is_later (pair_of record_of.heard)
+  reply : s.reply_at ≡ heard_of.0
 
 of_later : (r : Rec) (rs : List Rec) (g : Option ℕ) (gs : List (Option ℕ)) (k : ℕ) (s : StretchKey) → IsOf rs gs (suc k) s → IsOf (r ∷ rs) (g ∷ gs) k s
 of_later r rs g gs k s o = record {
   from = suc o.from;
   record_of = o.record_of;
   heard_of = o.heard_of;
-  number = (let e : s.3 ≡ suc k + o.from = o.number in omega arith);
+  number = (let e : s.rec ≡ suc k + o.from = o.number in omega arith);
   at = o.at;
   heard = o.heard;
   given = o.given;
-  turn_is = o.turn_is;
+  after_is = o.after_is;
   reply = o.reply;
 }
 
@@ -79,38 +80,38 @@ standing_of (r ∷ rs) (g ∷ gs) k i s at = by_heard r.heard g refl refl i at (
   by_heard None d is given i at later = later i at
   by_heard (Some h) None is given i at later = later i at
   by_heard (Some h) (Some j) is given zero at later =
-      let same : (j, turn (pair_of (Some h)), h.0, k) ≡ s = same_some (j, turn (pair_of (Some h)), h.0, k) s at in
+      let same : (key_of j (is_later (pair_of (Some h))) h.0 k) ≡ s = same_some (key_of j (is_later (pair_of (Some h))) h.0 k) s at in
       record {
         from = 0;
         record_of = r;
         heard_of = h;
-        number = (let e : k ≡ s.3 = ap (λ (n : StretchKey). n.3) same in omega arith);
+        number = (let e : k ≡ s.rec = ap (λ (n : StretchKey). n.rec) same in omega arith);
         at = refl;
         heard = is;
-        given = ap (λ o. Some o) given ∙ ap (λ (n : StretchKey). Some (Some n.0)) same;
-        turn_is = sym (ap (λ (n : StretchKey). n.1) same) ∙ ap (λ o. turn (pair_of o)) (sym is);
-        reply = sym (ap (λ (n : StretchKey). n.2) same);
+        given = ap (λ o. Some o) given ∙ ap (λ (n : StretchKey). Some (Some n.stretch)) same;
+        after_is = sym (ap (λ (n : StretchKey). n.follows_write) same) ∙ ap (λ o. is_later (pair_of o)) (sym is);
+        reply = sym (ap (λ (n : StretchKey). n.reply_at) same);
       }
   by_heard (Some h) (Some j) is given (suc i) at later = later i at
 
-numbers_rise : (rs : List Rec) (gs : List (Option ℕ)) (k : ℕ) → KeyRises (λ (s : StretchKey). s.3) (standings_from k rs gs)
+numbers_rise : (rs : List Rec) (gs : List (Option ℕ)) (k : ℕ) → KeyRises (λ (s : StretchKey). s.rec) (standings_from k rs gs)
 numbers_rise [] gs k i j a b less at bt = absurd (none_is_not_some a at)
 numbers_rise (r ∷ rs) [] k i j a b less at bt = absurd (none_is_not_some a at)
 numbers_rise (r ∷ rs) (g ∷ gs) k i j a b less at bt = by_made (standing_made k r.heard g) here i j less at bt (numbers_rise rs gs (suc k)) where
-  here : (s : StretchKey) → standing_made k r.heard g ≡ Some s → s.3 ≡ k
+  here : (s : StretchKey) → standing_made k r.heard g ≡ Some s → s.rec ≡ k
   here s is = by_heard r.heard g is where
-    by_heard : (o : Option (ℕ × Reply)) (d : Option ℕ) → standing_made k o d ≡ Some s → s.3 ≡ k
+    by_heard : (o : Option (ℕ × Reply)) (d : Option ℕ) → standing_made k o d ≡ Some s → s.rec ≡ k
     by_heard None d is = absurd (none_is_not_some s is)
     by_heard (Some h) None is = absurd (none_is_not_some s is)
-    by_heard (Some h) (Some l) is = sym (ap (λ (n : StretchKey). n.3) (same_some (l, turn (pair_of (Some h)), h.0, k) s is))
+    by_heard (Some h) (Some l) is = sym (ap (λ (n : StretchKey). n.rec) (same_some (key_of l (is_later (pair_of (Some h))) h.0 k) s is))
 
-  by_made : (o : Option StretchKey) → ((s : StretchKey) → o ≡ Some s → s.3 ≡ k) → (i j : ℕ) → i < j → slice_get (with_standing o (standings_from (suc k) rs gs)) i ≡ Some a
-      → slice_get (with_standing o (standings_from (suc k) rs gs)) j ≡ Some b → KeyRises (λ (s : StretchKey). s.3) (standings_from (suc k) rs gs) → a.3 < b.3
+  by_made : (o : Option StretchKey) → ((s : StretchKey) → o ≡ Some s → s.rec ≡ k) → (i j : ℕ) → i < j → slice_get (with_standing o (standings_from (suc k) rs gs)) i ≡ Some a
+      → slice_get (with_standing o (standings_from (suc k) rs gs)) j ≡ Some b → KeyRises (λ (s : StretchKey). s.rec) (standings_from (suc k) rs gs) → a.rec < b.rec
   by_made None own i j less at bt later = later i j a b less at bt
   by_made (Some s) own zero zero less at bt later = absurd (omega arith)
   by_made (Some s) own zero (suc j) less at bt later =
-      let o = standing_of rs gs (suc k) j b bt in let number : b.3 ≡ suc k + o.from = o.number in
-      let mine : a.3 ≡ k = own a at in omega arith
+      let o = standing_of rs gs (suc k) j b bt in let number : b.rec ≡ suc k + o.from = o.number in
+      let mine : a.rec ≡ k = own a at in omega arith
   by_made (Some s) own (suc i) zero less at bt later = absurd (omega arith)
   by_made (Some s) own (suc i) (suc j) less at bt later = later i j a b (omega arith) at bt
 
@@ -118,46 +119,36 @@ numbers_rise (r ∷ rs) (g ∷ gs) k i j a b less at bt = by_made (standing_made
 
 by_standing_total : IsTotalOrder by_standing
 by_standing_total =
-    then_total (then_total (then_total (on_total (λ (s : StretchKey). s.0) nat_cmp_total) (on_total (λ (s : StretchKey). s.1) nat_cmp_total))
-    (on_total (λ (s : StretchKey). s.2) nat_cmp_total)) (on_total (λ (s : StretchKey). s.3) nat_cmp_total)
+    then_total (on_total (λ (s : StretchKey). s.stretch) nat_cmp_total) (then_total (on_total (λ (s : StretchKey). s.follows_write) bool_cmp_total)
+    (then_total (on_total (λ (s : StretchKey). s.reply_at) nat_cmp_total) (on_total (λ (s : StretchKey). s.rec) nat_cmp_total)))
 
-then_not : (o p : Ordering) → is_lt (ordering_then o p) ≡ false → is_lt o ≡ false
-then_not Less p not = absurd (true≢false not)
-then_not Equal p not = refl
-then_not Greater p not = refl
-
--- a stands up to b: by stretch, then by turn, then by place of reply
+-- a stands up to b: by stretch, its write first, then by place of reply
 record IsUpTo (a b : StretchKey) : Type 0 where
-  stretch : a.0 ≤ b.0
-  turn_up : a.0 ≡ b.0 → a.1 ≤ b.1
-  reply_up : a.0 ≡ b.0 → a.1 ≡ b.1 → a.2 ≤ b.2
+  stretch : a.stretch ≤ b.stretch
+  after_up : a.stretch ≡ b.stretch → IsTrue a.follows_write → IsTrue b.follows_write
+  reply_up : a.stretch ≡ b.stretch → a.follows_write ≡ b.follows_write → a.reply_at ≤ b.reply_at
 
 up_to : (a b : StretchKey) → is_lt (by_standing b a) ≡ false → IsUpTo a b
-up_to a b not =
-    let three = then_not (ordering_then (ordering_then (nat_cmp b.0 a.0) (nat_cmp b.1 a.1)) (nat_cmp b.2 a.2)) (nat_cmp b.3 a.3) not in
-    let two = then_not (ordering_then (nat_cmp b.0 a.0) (nat_cmp b.1 a.1)) (nat_cmp b.2 a.2) three in
-    let one = then_not (nat_cmp b.0 a.0) (nat_cmp b.1 a.1) two in
-    record {
-      stretch = not_below b.0 a.0 one;
-      turn_up = λ same. elim (not_below_then b.0 a.0 (nat_cmp b.1 a.1) two) as (λ _. a.1 ≤ b.1) [
+up_to a b not = record {
+  stretch = not_below b.stretch a.stretch (then_not (nat_cmp b.stretch a.stretch)
+      (ordering_then (bool_cmp b.follows_write a.follows_write) (ordering_then (nat_cmp b.reply_at a.reply_at) (nat_cmp b.rec a.rec))) not);
+  after_up = λ same. flags_up b.follows_write a.follows_write (then_not (bool_cmp b.follows_write a.follows_write)
+      (ordering_then (nat_cmp b.reply_at a.reply_at) (nat_cmp b.rec a.rec)) (together same));
+  reply_up = λ same flags. not_below b.reply_at a.reply_at (then_not (nat_cmp b.reply_at a.reply_at) (nat_cmp b.rec a.rec)
+      (subst (λ o. is_lt (ordering_then o (ordering_then (nat_cmp b.reply_at a.reply_at) (nat_cmp b.rec a.rec))) ≡ false) (tied flags) (together same)));
+} where
+  together : a.stretch ≡ b.stretch → is_lt (ordering_then (bool_cmp b.follows_write a.follows_write) (ordering_then (nat_cmp b.reply_at a.reply_at) (nat_cmp b.rec a.rec))) ≡ false
+  together same =
+      elim (not_below_then b.stretch a.stretch (ordering_then (bool_cmp b.follows_write a.follows_write) (ordering_then (nat_cmp b.reply_at a.reply_at) (nat_cmp b.rec a.rec))) not)
+      as (λ _. is_lt (ordering_then (bool_cmp b.follows_write a.follows_write) (ordering_then (nat_cmp b.reply_at a.reply_at) (nat_cmp b.rec a.rec))) ≡ false) [
         | inl less ↦ absurd (omega arith)
-        | inr rest ↦ not_below b.1 a.1 rest.1
-      ];
-      reply_up = λ same turns. not_below b.2 a.2 (in_turn same turns three);
-    } where
-      tied : (x y : ℕ) → x ≡ y → nat_cmp y x ≡ Equal
-      tied x y same = subst (λ n. nat_cmp n x ≡ Equal) same (tied_itself nat_cmp_total x)
+        | inr rest ↦ rest.1
+      ]
 
-      in_turn : a.0 ≡ b.0 → a.1 ≡ b.1 → is_lt (ordering_then (ordering_then (nat_cmp b.0 a.0) (nat_cmp b.1 a.1)) (nat_cmp b.2 a.2)) ≡ false → is_lt (nat_cmp b.2 a.2) ≡ false
-      in_turn same turns three =
-          subst (λ o. is_lt (ordering_then o (nat_cmp b.2 a.2)) ≡ false) (tied a.1 b.1 turns)
-          (subst (λ o. is_lt (ordering_then (ordering_then o (nat_cmp b.1 a.1)) (nat_cmp b.2 a.2)) ≡ false) (tied a.0 b.0 same) three)
+  tied : a.follows_write ≡ b.follows_write → bool_cmp b.follows_write a.follows_write ≡ Equal
+  tied same = subst (λ z. bool_cmp z a.follows_write ≡ Equal) same (tied_itself bool_cmp_total a.follows_write)
 
 -- ---- the order of the sweep
-
-turns : (d : Option Pair) → turn d ≤ 1
-turns None = omega arith
-turns (Some q) = omega arith
 
 -- what the proof stands on: the chain, the stretches given, some order, and the standings sorted
 record Given (records : List Rec) (chain : List (Pair × ℕ)) (given : List (Option ℕ)) (places : List Place) (sorted : List StretchKey) : Type 0 where
@@ -172,31 +163,31 @@ record Given (records : List Rec) (chain : List (Pair × ℕ)) (given : List (Op
 record Stood (records : List Rec) (given : List (Option ℕ)) (s : StretchKey) : Type 0 where
   record_of : Rec
   heard_of : ℕ × Reply
-  names : slice_get records s.3 ≡ Some record_of
+  names : slice_get records s.rec ≡ Some record_of
   heard : record_of.heard ≡ Some heard_of
-  is : IsGiven given s.3 s.0
-  turn_is : s.1 ≡ turn (pair_of record_of.heard)
-  reply : s.2 ≡ heard_of.0
+  is : IsGiven given s.rec s.stretch
+  after_is : s.follows_write ≡ is_later (pair_of record_of.heard)
+  reply : s.reply_at ≡ heard_of.0
 
 stood : (records : List Rec) (chain : List (Pair × ℕ)) (given : List (Option ℕ)) (places : List Place) (sorted : List StretchKey) → Given records chain given places sorted
     → (i : ℕ) (s : StretchKey) → slice_get sorted i ≡ Some s → Stood records given s
 stood records chain given places sorted g i s at =
     let has = has_back (standings_from 0 records given) sorted s g.moved (i, at) in
     let o = standing_of records given 0 has.0 s has.1 in
-    let number : o.from ≡ s.3 = (let e : s.3 ≡ 0 + o.from = o.number in omega arith) in
+    let number : o.from ≡ s.rec = (let e : s.rec ≡ 0 + o.from = o.number in omega arith) in
     record {
       record_of = o.record_of;
       heard_of = o.heard_of;
       names = ap (slice_get records) (sym number) ∙ o.at;
       heard = o.heard;
       is = ap (slice_get given) (sym number) ∙ o.given;
-      turn_is = o.turn_is;
+      after_is = o.after_is;
       reply = o.reply;
     }
 
 once : (records : List Rec) (chain : List (Pair × ℕ)) (given : List (Option ℕ)) (places : List Place) (sorted : List StretchKey) → Given records chain given places sorted
-    → KeyOnce (λ (s : StretchKey). s.3) sorted
-once records chain given places sorted g = once_moved (λ (s : StretchKey). s.3) (standings_from 0 records given) sorted g.moved (numbers_rise records given 0)
+    → KeyOnce (λ (s : StretchKey). s.rec) sorted
+once records chain given places sorted g = once_moved (λ (s : StretchKey). s.rec) (standings_from 0 records given) sorted g.moved (numbers_rise records given 0)
 
 in_line : (records : List Rec) (chain : List (Pair × ℕ)) (given : List (Option ℕ)) (places : List Place) (sorted : List StretchKey) → Given records chain given places sorted
     → (i j : ℕ) (a b : StretchKey) → i ≤ j → slice_get sorted i ≡ Some a → slice_get sorted j ≡ Some b → IsUpTo a b
@@ -204,32 +195,32 @@ in_line records chain given places sorted g i j a b less at bt = up_to a b (sort
 
 -- an answered record stands somewhere
 stands : (records : List Rec) (chain : List (Pair × ℕ)) (given : List (Option ℕ)) (places : List Place) (sorted : List StretchKey) → Given records chain given places sorted
-    → (y j : ℕ) (r : Rec) (h : ℕ × Reply) → slice_get records y ≡ Some r → r.heard ≡ Some h → IsGiven given y j → Has sorted (j, turn (pair_of (Some h)), h.0, y)
+    → (y j : ℕ) (r : Rec) (h : ℕ × Reply) → slice_get records y ≡ Some r → r.heard ≡ Some h → IsGiven given y j → Has sorted (key_of j (is_later (pair_of (Some h))) h.0 y)
 stands records chain given places sorted g y j r h at is given_is =
-    has_moved (standings_from 0 records given) sorted (j, turn (pair_of (Some h)), h.0, y) g.moved
-    (subst (λ n. Has (standings_from 0 records given) (j, turn (pair_of (Some h)), h.0, n)) (let e : 0 + y ≡ y = omega arith in e) (standing_has records given 0 y j r h at is given_is))
+    has_moved (standings_from 0 records given) sorted (key_of j (is_later (pair_of (Some h))) h.0 y) g.moved
+    (subst (λ n. Has (standings_from 0 records given) (key_of j (is_later (pair_of (Some h))) h.0 n)) (let e : 0 + y ≡ y = omega arith in e) (standing_has records given 0 y j r h at is given_is))
 
--- the write of a standing, where it is one
+-- the write of a standing, if it is one
 record Written (chain : List (Pair × ℕ)) (s : StretchKey) : Type 0 where
   pair : Pair
   link : ℕ
-  stretch : s.0 ≡ suc link
-  there : slice_get chain link ≡ Some (pair, s.3)
+  stretch : s.stretch ≡ suc link
+  there : slice_get chain link ≡ Some (pair, s.rec)
 
--- a standing with turn 0 is a write
+-- a standing whose `follows_write` is false is a write, any other a read
 data Kind (chain : List (Pair × ℕ)) (records : List Rec) (s : StretchKey) (r : Rec) : Type 0 where
-  writes : Written chain s → s.1 ≡ 0 → cap (pair_of r.heard) s.0 ≡ s.0 - 1 → Kind chain records s r
-  reads : s.1 ≡ 1 → cap (pair_of r.heard) s.0 ≡ s.0 → ReadFits (states_of records chain) r.op r.heard s.0 → pair_of r.heard ≡ None → Kind chain records s r
+  writes : Written chain s → s.follows_write ≡ false → cap (pair_of r.heard) s.stretch ≡ s.stretch - 1 → Kind chain records s r
+  reads : s.follows_write ≡ true → cap (pair_of r.heard) s.stretch ≡ s.stretch → ReadFits (states_of records chain) r.op r.heard s.stretch → pair_of r.heard ≡ None → Kind chain records s r
 
-kind : (records : List Rec) (chain : List (Pair × ℕ)) (s : StretchKey) (r : Rec) (d : Option Pair) → pair_of r.heard ≡ d → s.1 ≡ turn d
-    → FitsAs d chain (states_of records chain) s.3 r s.0 → Kind chain records s r
-kind records chain s r None is turn_is fits = reads turn_is (ap (λ o. cap o s.0) is) fits is
-kind records chain s r (Some q) is turn_is fits = writes (record { pair = q; link = fits.0; stretch = fits.1; there = fits.2 }) turn_is (ap (λ o. cap o s.0) is)
+kind : (records : List Rec) (chain : List (Pair × ℕ)) (s : StretchKey) (r : Rec) (d : Option Pair) → pair_of r.heard ≡ d → s.follows_write ≡ is_later d
+    → FitsAs d chain (states_of records chain) s.rec r s.stretch → Kind chain records s r
+kind records chain s r None is after_is fits = reads after_is (ap (λ o. cap o s.stretch) is) fits is
+kind records chain s r (Some q) is after_is fits = writes (record { pair = q; link = fits.0; stretch = fits.1; there = fits.2 }) after_is (ap (λ o. cap o s.stretch) is)
 
 kind_of : (records : List Rec) (chain : List (Pair × ℕ)) (given : List (Option ℕ)) (places : List Place) (sorted : List StretchKey) → Given records chain given places sorted
     → (s : StretchKey) (st : Stood records given s) → Kind chain records s st.record_of
 kind_of records chain given places sorted g s st =
-    kind records chain s st.record_of (pair_of st.record_of.heard) refl st.turn_is (g.are_given.fits s.3 s.0 st.record_of st.names st.is)
+    kind records chain s st.record_of (pair_of st.record_of.heard) refl st.after_is (g.are_given.fits s.rec s.stretch st.record_of st.names st.is)
 
 -- ---- none too late
 
@@ -237,22 +228,19 @@ in_time : (records : List Rec) (chain : List (Pair × ℕ)) (given : List (Optio
     → (i j : ℕ) (a b : StretchKey) (sa : Stood records given a) (sb : Stood records given b) → i ≤ j → slice_get sorted i ≡ Some a → slice_get sorted j ≡ Some b
     → sb.heard_of.0 < sa.record_of.call_at → ⊥
 in_time records chain given places sorted g i j a b sa sb less at bt early =
-    let low : b.0 ≤ cap (pair_of sa.record_of.heard) a.0 =
-    g.are_given.before a.3 b.3 a.0 b.0 sa.record_of sb.record_of sb.heard_of sa.heard_of sa.names sb.names sa.heard sb.heard early sa.is sb.is in
+    let low : b.stretch ≤ cap (pair_of sa.record_of.heard) a.stretch =
+    g.are_given.before a.rec b.rec a.stretch b.stretch sa.record_of sb.record_of sb.heard_of sa.heard_of sa.names sb.names sa.heard sb.heard early sa.is sb.is in
     let up = in_line records chain given places sorted g i j a b less at bt in
-    let rise : a.0 ≤ b.0 = up.stretch in
+    let rise : a.stretch ≤ b.stretch = up.stretch in
     by_kind low rise up (kind_of records chain given places sorted g a sa) where
-      by_kind : b.0 ≤ cap (pair_of sa.record_of.heard) a.0 → a.0 ≤ b.0 → IsUpTo a b → Kind chain records a sa.record_of → ⊥
-      by_kind low rise up (writes w zero_is cap_is) = let some : a.0 ≡ suc w.link = w.stretch in omega arith
-      by_kind low rise up (reads one_is cap_is fits none) =
-          let same : a.0 ≡ b.0 = omega arith in
-          let turn_up : a.1 ≤ b.1 = up.turn_up same in
-          let most = turns (pair_of sb.record_of.heard) in
-          let turn_b : b.1 ≡ turn (pair_of sb.record_of.heard) = sb.turn_is in
-          let reply_up : a.2 ≤ b.2 = up.reply_up same (omega arith) in
-          let own = g.spread.own a.3 sa.record_of sa.heard_of sa.names sa.heard in
-          let reply_a : a.2 ≡ sa.heard_of.0 = sa.reply in
-          let reply_b : b.2 ≡ sb.heard_of.0 = sb.reply in
+      by_kind : b.stretch ≤ cap (pair_of sa.record_of.heard) a.stretch → a.stretch ≤ b.stretch → IsUpTo a b → Kind chain records a sa.record_of → ⊥
+      by_kind low rise up (writes w first_is cap_is) = let some : a.stretch ≡ suc w.link = w.stretch in omega arith
+      by_kind low rise up (reads later_is cap_is fits none) =
+          let same : a.stretch ≡ b.stretch = omega arith in
+          let reply_up : a.reply_at ≤ b.reply_at = up.reply_up same (later_is ∙ sym (up.after_up same later_is)) in
+          let own = g.spread.own a.rec sa.record_of sa.heard_of sa.names sa.heard in
+          let reply_a : a.reply_at ≡ sa.heard_of.0 = sa.reply in
+          let reply_b : b.reply_at ≡ sb.heard_of.0 = sb.reply in
           omega arith
 
 -- ---- a legal run
@@ -261,13 +249,13 @@ in_time records chain given places sorted g i j a b sa sb less at bt early =
 reach : List StretchKey → ℕ → ℕ
 reach [] i = 0
 reach (s ∷ ss) zero = 0
-reach (s ∷ ss) (suc zero) = s.0
+reach (s ∷ ss) (suc zero) = s.stretch
 reach (s ∷ ss) (suc (suc i)) = reach ss (suc i)
 
-reach_after : (ss : List StretchKey) (i : ℕ) (s : StretchKey) → slice_get ss i ≡ Some s → reach ss (suc i) ≡ s.0
+reach_after : (ss : List StretchKey) (i : ℕ) (s : StretchKey) → slice_get ss i ≡ Some s → reach ss (suc i) ≡ s.stretch
 unfolding reach
 reach_after [] i s at = absurd (none_is_not_some s at)
-reach_after (t ∷ ss) zero s at = ap (λ (n : StretchKey). n.0) (same_some t s at)
+reach_after (t ∷ ss) zero s at = ap (λ (n : StretchKey). n.stretch) (same_some t s at)
 reach_after (t ∷ ss) (suc i) s at = reach_after ss i s at
 
 reach_start : (ss : List StretchKey) → reach ss 0 ≡ 0
@@ -282,31 +270,32 @@ at_before (t ∷ ss) (suc i) zero s less at = absurd (omega arith)
 at_before (t ∷ ss) (suc i) (suc j) s less at = at_before ss i j s (omega arith) at
 
 not_past : (records : List Rec) (chain : List (Pair × ℕ)) (given : List (Option ℕ)) (places : List Place) (sorted : List StretchKey) → Given records chain given places sorted
-    → (i : ℕ) (b : StretchKey) (sb : Stood records given b) → slice_get sorted i ≡ Some b → reach sorted i ≤ cap (pair_of sb.record_of.heard) b.0
+    → (i : ℕ) (b : StretchKey) (sb : Stood records given b) → slice_get sorted i ≡ Some b → reach sorted i ≤ cap (pair_of sb.record_of.heard) b.stretch
 not_past records chain given places sorted g zero b sb at = let start : reach sorted 0 ≡ 0 = reach_start sorted in omega arith
 not_past records chain given places sorted g (suc i) b sb at =
     let a = at_before sorted i (suc i) b (omega arith) at in
-    let here : reach sorted (suc i) ≡ a.0.0 = reach_after sorted i a.0 a.1 in
+    let here : reach sorted (suc i) ≡ a.0.stretch = reach_after sorted i a.0 a.1 in
     let sa = stood records chain given places sorted g i a.0 a.1 in
     let up = in_line records chain given places sorted g i (suc i) a.0 b (omega arith) a.1 at in
     by_kinds a.0 a.1 here up (kind_of records chain given places sorted g a.0 sa) (kind_of records chain given places sorted g b sb) where
-      by_kinds : (a : StretchKey) → slice_get sorted i ≡ Some a → reach sorted (suc i) ≡ a.0 → IsUpTo a b → {r : Rec} → Kind chain records a r → Kind chain records b sb.record_of
-          → reach sorted (suc i) ≤ cap (pair_of sb.record_of.heard) b.0
-      by_kinds a ata here up ka (reads one_is cap_is fits none) = let rise : a.0 ≤ b.0 = up.stretch in omega arith
-      by_kinds a ata here up (reads one_a cap_a fits none) (writes w zero_is cap_is) = elim (cases_lt a.0 b.0) as (λ _. reach sorted (suc i) ≤ cap (pair_of sb.record_of.heard) b.0) [
+      by_kinds : (a : StretchKey) → slice_get sorted i ≡ Some a → reach sorted (suc i) ≡ a.stretch → IsUpTo a b → {r : Rec} → Kind chain records a r → Kind chain records b sb.record_of
+          → reach sorted (suc i) ≤ cap (pair_of sb.record_of.heard) b.stretch
+      by_kinds a ata here up ka (reads later_is cap_is fits none) = let rise : a.stretch ≤ b.stretch = up.stretch in omega arith
+      by_kinds a ata here up (reads later_a cap_a fits none) (writes w first_is cap_is) = elim (cases_lt a.stretch b.stretch) as (λ _. reach sorted (suc i) ≤ cap (pair_of sb.record_of.heard) b.stretch) [
         | inl less ↦ (omega arith)
         | inr not ↦
-            let rise : a.0 ≤ b.0 = up.stretch in
-            let turn_up : a.1 ≤ b.1 = up.turn_up (omega arith) in absurd (omega arith)
+            let rise : a.stretch ≤ b.stretch = up.stretch in
+            let same : a.stretch ≡ b.stretch = omega arith in
+            absurd (true≢false (sym (up.after_up same later_a) ∙ first_is))
       ]
-      by_kinds a ata here up (writes v zero_a cap_a) (writes w zero_is cap_is) = elim (cases_lt a.0 b.0) as (λ _. reach sorted (suc i) ≤ cap (pair_of sb.record_of.heard) b.0) [
+      by_kinds a ata here up (writes v first_a cap_a) (writes w first_is cap_is) = elim (cases_lt a.stretch b.stretch) as (λ _. reach sorted (suc i) ≤ cap (pair_of sb.record_of.heard) b.stretch) [
         | inl less ↦ (omega arith)
         | inr not ↦
-            let rise : a.0 ≤ b.0 = up.stretch in
-            let va : a.0 ≡ suc v.link = v.stretch in
-            let wb : b.0 ≡ suc w.link = w.stretch in
+            let rise : a.stretch ≤ b.stretch = up.stretch in
+            let va : a.stretch ≡ suc v.link = v.stretch in
+            let wb : b.stretch ≡ suc w.link = w.stretch in
             let link : v.link ≡ w.link = omega arith in
-            let same = same_some {X = Pair × ℕ} (v.pair, a.3) (w.pair, b.3) (sym v.there ∙ (ap (slice_get chain) link ∙ w.there)) in
+            let same = same_some {X = Pair × ℕ} (v.pair, a.rec) (w.pair, b.rec) (sym v.there ∙ (ap (slice_get chain) link ∙ w.there)) in
             let place : i ≡ suc i = once records chain given places sorted g i (suc i) a b ata at (ap (λ (c : Pair × ℕ). c.1) same) in
             absurd (omega arith)
       ]
@@ -349,29 +338,29 @@ given_own records chain given places sorted g k c at p =
 
 -- what a write of the chain begins is reached where anything stands that is to be in it or later
 reached : (records : List Rec) (chain : List (Pair × ℕ)) (given : List (Option ℕ)) (places : List Place) (sorted : List StretchKey) → Given records chain given places sorted
-    → (i : ℕ) (b : StretchKey) (sb : Stood records given b) → slice_get sorted i ≡ Some b → cap (pair_of sb.record_of.heard) b.0 ≤ reach sorted i
-reached records chain given places sorted g i b sb at = by_target (cap (pair_of sb.record_of.heard) b.0) refl (kind_of records chain given places sorted g b sb) where
-  below : (k : ℕ) → Kind chain records b sb.record_of → cap (pair_of sb.record_of.heard) b.0 ≡ suc k → suc k ≤ b.0
-  below k (writes w zero_is cap_is) is = omega arith
-  below k (reads one_is cap_is fits none) is = omega arith
+    → (i : ℕ) (b : StretchKey) (sb : Stood records given b) → slice_get sorted i ≡ Some b → cap (pair_of sb.record_of.heard) b.stretch ≤ reach sorted i
+reached records chain given places sorted g i b sb at = by_target (cap (pair_of sb.record_of.heard) b.stretch) refl (kind_of records chain given places sorted g b sb) where
+  below : (k : ℕ) → Kind chain records b sb.record_of → cap (pair_of sb.record_of.heard) b.stretch ≡ suc k → suc k ≤ b.stretch
+  below k (writes w first_is cap_is) is = omega arith
+  below k (reads later_is cap_is fits none) is = omega arith
 
-  not_late : (k : ℕ) (s : StretchKey) → Kind chain records b sb.record_of → cap (pair_of sb.record_of.heard) b.0 ≡ suc k → s.0 ≡ suc k → s.1 ≡ 0 → IsUpTo b s → ⊥
-  not_late k s (writes w zero_is cap_is) is stretch turn_is up = let rise : b.0 ≤ s.0 = up.stretch in omega arith
-  not_late k s (reads one_is cap_is fits none) is stretch turn_is up =
-      let turn_up : b.1 ≤ s.1 = up.turn_up (omega arith) in omega arith
+  not_late : (k : ℕ) (s : StretchKey) → Kind chain records b sb.record_of → cap (pair_of sb.record_of.heard) b.stretch ≡ suc k → s.stretch ≡ suc k → s.follows_write ≡ false → IsUpTo b s → ⊥
+  not_late k s (writes w first_is cap_is) is stretch after_is up = let rise : b.stretch ≤ s.stretch = up.stretch in omega arith
+  not_late k s (reads later_is cap_is fits none) is stretch after_is up =
+      let same : b.stretch ≡ s.stretch = omega arith in true≢false (sym (up.after_up same later_is) ∙ after_is)
 
-  after : (k n i : ℕ) (s : StretchKey) → slice_get sorted n ≡ Some s → s.0 ≡ suc k → n < i → slice_get sorted i ≡ Some b → suc k ≤ reach sorted i
+  after : (k n i : ℕ) (s : StretchKey) → slice_get sorted n ≡ Some s → s.stretch ≡ suc k → n < i → slice_get sorted i ≡ Some b → suc k ≤ reach sorted i
   after k n zero s there stretch less ib = absurd (omega arith)
   after k n (suc j) s there stretch less ib =
       let a = at_before sorted j (suc j) b (omega arith) ib in
-      let here : reach sorted (suc j) ≡ a.0.0 = reach_after sorted j a.0 a.1 in
+      let here : reach sorted (suc j) ≡ a.0.stretch = reach_after sorted j a.0 a.1 in
       let up = in_line records chain given places sorted g n j s a.0 (omega arith) there a.1 in
-      let rise : s.0 ≤ a.0.0 = up.stretch in omega arith
+      let rise : s.stretch ≤ a.0.stretch = up.stretch in omega arith
 
-  by_target : (t : ℕ) → cap (pair_of sb.record_of.heard) b.0 ≡ t → Kind chain records b sb.record_of → cap (pair_of sb.record_of.heard) b.0 ≤ reach sorted i
+  by_target : (t : ℕ) → cap (pair_of sb.record_of.heard) b.stretch ≡ t → Kind chain records b sb.record_of → cap (pair_of sb.record_of.heard) b.stretch ≤ reach sorted i
   by_target zero is kd = omega arith
   by_target (suc k) is kd =
-      let few = g.are_given.within b.3 b.0 sb.is in
+      let few = g.are_given.within b.rec b.stretch sb.is in
       let low = below k kd is in
       let link = get_within chain k (omega arith) in
       let p = performed records chain k link.0 g.is_chain link.1 in
@@ -379,10 +368,10 @@ reached records chain given places sorted g i b sb at = by_target (cap (pair_of 
       let has = stands records chain given places sorted g link.0.1 (suc k) p.record_of p.heard_of p.names p.heard own in
       let early : has.0 < i = elim (cases_lt has.0 i) as (λ _. has.0 < i) [
         | inl less ↦ less
-        | inr late ↦ absurd (not_late k (suc k, turn (pair_of (Some p.heard_of)), p.heard_of.0, link.0.1) kd is refl (ap turn p.pair)
-            (in_line records chain given places sorted g i has.0 b (suc k, turn (pair_of (Some p.heard_of)), p.heard_of.0, link.0.1) late at has.1))
+        | inr late ↦ absurd (not_late k (key_of (suc k) (is_later (pair_of (Some p.heard_of))) p.heard_of.0 link.0.1) kd is refl (ap is_later p.pair)
+            (in_line records chain given places sorted g i has.0 b (key_of (suc k) (is_later (pair_of (Some p.heard_of))) p.heard_of.0 link.0.1) late at has.1))
       ] in
-      let up = after k has.0 i (suc k, turn (pair_of (Some p.heard_of)), p.heard_of.0, link.0.1) has.1 refl early at in
+      let up = after k has.0 i (key_of (suc k) (is_later (pair_of (Some p.heard_of))) p.heard_of.0 link.0.1) has.1 refl early at in
       omega arith
 
 -- the document after i places
@@ -391,30 +380,30 @@ state_reached records chain sorted i = state_in (states_of records chain) (reach
 
 step_there : (records : List Rec) (chain : List (Pair × ℕ)) (given : List (Option ℕ)) (places : List Place) (sorted : List StretchKey) → Given records chain given places sorted
     → (s : StretchKey) (st : Stood records given s)
-    → StepsAt (state_in (states_of records chain) (cap (pair_of st.record_of.heard) s.0)) st.record_of.op st.record_of.heard None (state_in (states_of records chain) s.0)
+    → StepsAt (state_in (states_of records chain) (cap (pair_of st.record_of.heard) s.stretch)) st.record_of.op st.record_of.heard None (state_in (states_of records chain) s.stretch)
 step_there records chain given places sorted g s st = by_kind (kind_of records chain given places sorted g s st) where
-  read_step : (heard : Option (ℕ × Reply)) → ReadFits (states_of records chain) st.record_of.op heard s.0
-      → StepsAt (state_in (states_of records chain) s.0) st.record_of.op heard None (state_in (states_of records chain) s.0)
+  read_step : (heard : Option (ℕ × Reply)) → ReadFits (states_of records chain) st.record_of.op heard s.stretch
+      → StepsAt (state_in (states_of records chain) s.stretch) st.record_of.op heard None (state_in (states_of records chain) s.stretch)
   read_step None fits = absurd fits
   read_step (Some h) fits = fits
 
   by_kind : Kind chain records s st.record_of
-      → StepsAt (state_in (states_of records chain) (cap (pair_of st.record_of.heard) s.0)) st.record_of.op st.record_of.heard None (state_in (states_of records chain) s.0)
-  by_kind (reads one_is cap_is fits none) =
-      subst (λ n. StepsAt (state_in (states_of records chain) n) st.record_of.op st.record_of.heard None (state_in (states_of records chain) s.0)) (sym cap_is)
+      → StepsAt (state_in (states_of records chain) (cap (pair_of st.record_of.heard) s.stretch)) st.record_of.op st.record_of.heard None (state_in (states_of records chain) s.stretch)
+  by_kind (reads later_is cap_is fits none) =
+      subst (λ n. StepsAt (state_in (states_of records chain) n) st.record_of.op st.record_of.heard None (state_in (states_of records chain) s.stretch)) (sym cap_is)
       (read_step st.record_of.heard fits)
-  by_kind (writes w zero_is cap_is) =
-      let v = g.spread.stands s.3 st.record_of st.heard_of st.names st.heard in
+  by_kind (writes w first_is cap_is) =
+      let v = g.spread.stands s.rec st.record_of st.heard_of st.names st.heard in
       subst (λ n. StepsAt (state_in (states_of records chain) (cap (pair_of st.record_of.heard) n)) st.record_of.op st.record_of.heard None (state_in (states_of records chain) n))
-      (same_stretch w v.0 (pair_of st.record_of.heard) refl zero_is (g.spread.fits s.3 v.0 st.record_of st.names v.1)) (g.spread.steps s.3 v.0 st.record_of st.names v.1)
+      (same_stretch w v.0 (pair_of st.record_of.heard) refl first_is (g.spread.fits s.rec v.0 st.record_of st.names v.1)) (g.spread.steps s.rec v.0 st.record_of st.names v.1)
     where
-      same_stretch : Written chain s → (m : ℕ) (d : Option Pair) → pair_of st.record_of.heard ≡ d → s.1 ≡ 0 → FitsAs d chain (states_of records chain) s.3 st.record_of m → m ≡ s.0
-      same_stretch w m None is zero_is fits =
-          let one : turn (pair_of st.record_of.heard) ≡ 1 = ap turn is in let own : s.1 ≡ turn (pair_of st.record_of.heard) = st.turn_is in absurd (omega arith)
-      same_stretch w m (Some q) is zero_is fits =
-          let mine = g.are_given.fits s.3 s.0 st.record_of st.names st.is in
-          let here : WriteFits chain s.3 q s.0 = subst (λ o. FitsAs o chain (states_of records chain) s.3 st.record_of s.0) is mine in
-          let same : fits.0 ≡ here.0 = one_place chain fits.0 here.0 (q, s.3) (q, s.3) g.rising fits.2 here.2 refl in
+      same_stretch : Written chain s → (m : ℕ) (d : Option Pair) → pair_of st.record_of.heard ≡ d → s.follows_write ≡ false → FitsAs d chain (states_of records chain) s.rec st.record_of m → m ≡ s.stretch
+      same_stretch w m None is first_is fits =
+          absurd (true≢false (sym (st.after_is ∙ ap is_later is) ∙ first_is))
+      same_stretch w m (Some q) is first_is fits =
+          let mine = g.are_given.fits s.rec s.stretch st.record_of st.names st.is in
+          let here : WriteFits chain s.rec q s.stretch = subst (λ o. FitsAs o chain (states_of records chain) s.rec st.record_of s.stretch) is mine in
+          let same : fits.0 ≡ here.0 = one_place chain fits.0 here.0 (q, s.rec) (q, s.rec) g.rising fits.2 here.2 refl in
           fits.1 ∙ (ap suc same ∙ sym here.1)
 
 run_made : (records : List Rec) (ps : List Place) (at : ℕ → DocState)
@@ -495,14 +484,14 @@ sorted_right conflicts records chain given places sorted g = record {
       let st = stood records chain given places sorted g i s.0 s.1 in
       let above = not_past records chain given places sorted g i s.0 st s.1 in
       let below = reached records chain given places sorted g i s.0 st s.1 in
-      let from : cap (pair_of st.record_of.heard) s.0.0 ≡ reach sorted i = omega arith in
-      let to : s.0.0 ≡ reach sorted (suc i) = sym (reach_after sorted i s.0 s.1) in (
+      let from : cap (pair_of st.record_of.heard) s.0.stretch ≡ reach sorted i = omega arith in
+      let to : s.0.stretch ≡ reach sorted (suc i) = sym (reach_after sorted i s.0 s.1) in (
         st.record_of,
         ap (λ (q : Place). slice_get records q.rec) s.2 ∙ st.names,
         subst (λ o. StepsAt (state_in (states_of records chain) (reach sorted i)) st.record_of.op st.record_of.heard o (state_in (states_of records chain) (reach sorted (suc i))))
             (sym (ap (λ (o : Place). o.pair) s.2))
             (subst (λ n. StepsAt (state_in (states_of records chain) (reach sorted i)) st.record_of.op st.record_of.heard None (state_in (states_of records chain) n)) to
-            (subst (λ n. StepsAt (state_in (states_of records chain) n) st.record_of.op st.record_of.heard None (state_in (states_of records chain) s.0.0)) from
+            (subst (λ n. StepsAt (state_in (states_of records chain) n) st.record_of.op st.record_of.heard None (state_in (states_of records chain) s.0.stretch)) from
             (step_there records chain given places sorted g s.0 st))),
       )
 
@@ -524,7 +513,7 @@ order_valid conflicts records chain given places order is_chain rising are_given
           let h = some_is r.heard heard in
           let given_is = are_given.all k r h.0 at h.1 in
           let has = stands records chain given places sorted g k given_is.0 r h.0 at h.1 given_is.1 in
-          (has.0, place_of (given_is.0, turn (pair_of (Some h.0)), h.0.0, k), place_there sorted has.0 _ has.1, refl);
+          (has.0, place_of (key_of given_is.0 (is_later (pair_of (Some h.0))) h.0.0 k), place_there sorted has.0 _ has.1, refl);
     })
 
 -- and gives no pair

@@ -22,7 +22,7 @@ use Rattle.write_chain.specs.Chain.{IsChain, after_link, link_at, performed_reco
 use Rattle.events.specs.Heard.{pair_of}
 use Rattle.doc_check.specs.aids.Stretches.{Fits, FitsAs, ReadFits, cap, state_in, states_of}
 use Rattle.doc_check.specs.aids.Sweep.{AreSpread, StandsIn, level, link_count, pair_at}
-use Rattle.doc_check.proofs.Lists.{Has, has_back, has_moved}
+use Rattle.version_pair.proofs.SortedLists.{Has, has_back, has_moved}
 use Rattle.doc_check.proofs.ChainLemmas.{Climbs, chain_climbs, link_record, performed_has, same_climbing}
 
 -- the performed writes of the places, in their order

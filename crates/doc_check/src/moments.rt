@@ -6,9 +6,16 @@ use std::alloc::Global;
 use version_pair::NoMemory;
 use write_chain::sort_nearly_ordered;
 
-/// The call or the reply of an answered record: its index in the history, whether it is the reply, and the
-/// record.
-pub type Moment = (usize, bool, usize);
+/// The call or the reply of an answered record. At one index, a call is less than a reply.
+#[derive(Clone, Copy, PartialEq, Eq, PartialOrd, Ord)]
+pub struct Moment {
+    /// Its index in the history.
+    pub index: usize,
+    /// Whether it is the reply.
+    pub is_reply: bool,
+    /// The number of the record.
+    pub rec: usize,
+}
 
 // The calls and replies of the answered records.
 fn answered_moments(alloc: Global, records: &[Rec]) -> Result<Vec<Moment>, NoMemory>
@@ -18,8 +25,16 @@ fn answered_moments(alloc: Global, records: &[Rec]) -> Result<Vec<Moment>, NoMem
     for k in 0..records.len() {
         let found = records[k];
         if let Some(heard) = found.heard {
-            moments.push((found.call_at, false, k))?;
-            moments.push((heard.0, true, k))?;
+            moments.push(Moment {
+                index: found.call_at,
+                is_reply: false,
+                rec: k,
+            })?;
+            moments.push(Moment {
+                index: heard.0,
+                is_reply: true,
+                rec: k,
+            })?;
         }
     }
     Ok(moments)

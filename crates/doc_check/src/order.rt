@@ -7,10 +7,21 @@ use std::alloc::Global;
 use version_pair::NoMemory;
 use write_chain::sort_nearly_ordered;
 
-// The sort key of a record: its stretch, its turn there, the index of its reply, its number.
-type StretchKey = (usize, usize, usize, usize);
+/// The sort key of an answered record: the write of a stretch comes first in it, then the others in response
+/// order.
+#[derive(Clone, Copy, PartialEq, Eq, PartialOrd, Ord)]
+pub struct StretchKey {
+    /// Its stretch.
+    pub stretch: usize,
+    /// Whether it isn't the write that begins its stretch, which comes first.
+    pub follows_write: bool,
+    /// The index of its reply.
+    pub reply_at: usize,
+    /// The number of the record.
+    pub rec: usize,
+}
 
-// The sort key of an answered record that was given a stretch: the write of a stretch comes first in it.
+// The sort key of an answered record that was given a stretch.
 fn standing_of(k: usize, found: Rec, given: Option<usize>) -> Option<StretchKey>
     ensures { result ≡ standing_made k found.heard given }
 {
@@ -20,10 +31,12 @@ fn standing_of(k: usize, found: Rec, given: Option<usize>) -> Option<StretchKey>
     let Some(stretch) = given else {
         return None;
     };
-    match found.pair_taken() {
-        Some(_) => Some((stretch, 0, heard.0, k)),
-        None => Some((stretch, 1, heard.0, k)),
-    }
+    Some(StretchKey {
+        stretch,
+        follows_write: found.pair_taken().is_none(),
+        reply_at: heard.0,
+        rec: k,
+    })
 }
 
 // The sort keys of the answered records.
@@ -58,8 +71,10 @@ pub fn order_of(
     sort_nearly_ordered(&mut standings);
     let mut places = Vec::with_capacity(alloc, standings.len())?;
     for i in 0..standings.len() {
-        let (_, _, _, rec) = standings[i];
-        places.push(Place { rec, pair: None })?;
+        places.push(Place {
+            rec: standings[i].rec,
+            pair: None,
+        })?;
     }
     Ok(places)
 }

@@ -30,27 +30,26 @@ fn meet(
     moment: Moment,
 ) -> Option<(usize, usize)>
     requires laid_out { AreStretches records.now stretches.now }
-    requires rec { moment.2 < length records.now }
+    requires rec { moment.rec < length records.now }
     requires size { length given.now ≡ length records.now }
     requires bound { bound ≤ length stretches.now.chain.items }
-    ensures some { IfSome result (λ met. (r : Call) → slice_get records.now moment.2 ≡ Some r
+    ensures some { IfSome result (λ met. (r : Call) → slice_get records.now moment.rec ≡ Some r
         → IsMet records.now stretches.now.chain.items given.now bound moment r met.0 met.1) }
-    ensures none { IfNone result ((r : Call) → slice_get records.now moment.2 ≡ Some r
+    ensures none { IfNone result ((r : Call) → slice_get records.now moment.rec ≡ Some r
         → IsStuck records.now stretches.now.chain.items given.now bound moment r) }
 {
-    let (_, is_reply, rec) = moment;
-    let found = &records[rec];
-    match given[rec] {
+    let found = &records[moment.rec];
+    match given[moment.rec] {
         Some(stretch) => {
-            if is_reply {
+            if moment.is_reply {
                 Some((stretch, bound))
             } else {
                 Some((stretch, bound.min(last_before(found, stretch))))
             }
         }
         None => {
-            if is_reply {
-                match stretches.latest(rec, found, bound) {
+            if moment.is_reply {
+                match stretches.latest(moment.rec, found, bound) {
                     Some(stretch) => Some((stretch, bound)),
                     None => None,
                 }
@@ -80,7 +79,7 @@ pub fn sweep(
         let moment = moments[i];
         match meet(records, stretches, &given, bound, moment) {
             Some((stretch, lowered)) => {
-                given[moment.2] = Some(stretch);
+                given[moment.rec] = Some(stretch);
                 bound = lowered;
             }
             None => return Ok(None),

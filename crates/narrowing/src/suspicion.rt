@@ -57,26 +57,36 @@ fn first_below(alloc: Global, records: &[Rec]) -> Result<Option<usize>, NoMemory
     Ok(first)
 }
 
-// Adds the pairs that are given to the calls of a document, with the shard and the indices of the replies.
-fn note_given(
-    given: &mut Vec<((u32, Pair), usize)>,
+// A pair of a shard that a reply gives.
+#[derive(Clone, Copy, PartialEq, Eq, PartialOrd, Ord)]
+struct GivenPair {
     shard: u32,
-    records: &[Rec],
-) -> Result<(), NoMemory> {
+    pair: Pair,
+    // The index of the reply.
+    place: usize,
+}
+
+// Adds the pairs that are given to the calls of a document.
+fn note_given(given: &mut Vec<GivenPair>, shard: u32, records: &[Rec]) -> Result<(), NoMemory> {
     for found in records {
         if let (Some(heard), Some(pair)) = (found.heard, found.pair_taken()) {
-            given.push(((shard, pair), heard.0))?;
+            given.push(GivenPair {
+                shard,
+                pair,
+                place: heard.0,
+            })?;
         }
     }
     Ok(())
 }
 
 // The first reply that gives a pair of its shard for the second time. The list must be sorted.
-fn first_given_twice(given: &[((u32, Pair), usize)]) -> Option<usize> {
+fn first_given_twice(given: &[GivenPair]) -> Option<usize> {
     let mut first = None;
     for i in 1..given.len() {
-        if given[i].0 == given[i - 1].0 {
-            first = earlier(given[i].1, first);
+        let (before, entry) = (given[i - 1], given[i]);
+        if entry.shard == before.shard && entry.pair == before.pair {
+            first = earlier(entry.place, first);
         }
     }
     first

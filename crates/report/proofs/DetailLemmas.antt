@@ -1,12 +1,14 @@
 -- What is reported piece by piece is what a line says.
-use Rattle.std.proofs.Common.{ℕ, ◌≡◌, ◌∙◌, Bool, List, None, Option, Some, ap, subst, sym, true}
+use Rattle.std.proofs.Common.{ℕ, ◌≡◌, ◌∙◌, Bool, List, None, Option, Some, ap, refl, subst, sym}
 use Rattle.std.specs.Prelude.{IsTrue}
 use Rattle.doc_register.specs.declared.state.Conflicts.{Conflicts}
 use Rattle.events.specs.declared.event.Event.{Event}
 use Rattle.events.specs.Order.{IsLinearizable}
 use Rattle.evidence.specs.declared.refuted.Refuted.{Refuted as Evidence}
 use Rattle.evidence.specs.declared.ruling_out.RulingOut.{RulingOut}
+use Rattle.history.specs.Laws.{TextOfOneHistory}
 use Rattle.history.specs.Text.{IsHistoryText}
+use Rattle.compose.specs.Laws.{IsComplete}
 use Rattle.compose.specs.declared.offence.Offence.{Offence}
 use Rattle.result_lines.specs.Objects.{line_of}
 use Rattle.result_lines.specs.declared.reported.Reported.{Reported}
@@ -15,7 +17,7 @@ use Rattle.stream_io.specs.declared.status.Status.TheVariants.{Yes, No, Refuted}
 use Rattle.report.specs.Calls.{CountsCalls}
 use Rattle.report.specs.Details.{IsProvedOf, calls_reported, status_of}
 use Rattle.report.specs.Findings.{SaysFailing}
-use Rattle.report.specs.aids.Reports.{IsReportOf}
+use Rattle.report.specs.aids.Reports.{IsProvedBy, IsReportOf}
 use Rattle.report.specs.Verdict.{IsAnswer, IsWitnessAnswer}
 
 -- what is reported of a history without an order is what its line says
@@ -39,14 +41,17 @@ pub uncounted : (input : List ℕ) (o : Offence) (found : Option Evidence) (said
 uncounted input o None said is = subst (λ s. CountsCalls input (status_of s) (calls_reported s)) (sym is) (λ (same : No ≡ Yes). cc)
 uncounted input o (Some evidence) said is = subst (λ s. CountsCalls input (status_of s) (calls_reported s)) (sym is) (λ (same : Refuted ≡ Yes). cc)
 
--- what is said to be proved of it is
-pub proved_reported : (conflicts : Conflicts) (H : List Event) (input : List ℕ) (o : Offence) (found : Option Evidence) (said : Reported) (proved : Bool) → IsReportOf o found said
-    → IsHistoryText input H → (IsTrue proved → ¬ IsLinearizable conflicts H) → IsProvedOf conflicts input said (Some proved)
-proved_reported conflicts H input o None said proved is text none =
-    subst (λ s. IsProvedOf conflicts input s (Some proved)) (sym is) (λ (same : Some proved ≡ Some true).
-    let yes : proved ≡ true = cc in
-    (H, text, none yes))
-proved_reported conflicts H input o (Some evidence) said proved is text none =
-    subst (λ s. IsProvedOf conflicts input s (Some proved)) (sym is) (λ (same : Some proved ≡ Some true).
-    let yes : proved ≡ true = cc in
-    (H, text, none yes))
+-- what is said to be proved of it is as `IsProvedOf` says
+pub proved_reported : (conflicts : Conflicts) (H : List Event) (input : List ℕ) (o : Offence) (found : Option Evidence) (said : Reported) (proved : Bool) → TextOfOneHistory
+    → IsReportOf o found said → IsHistoryText input H → IsProvedBy found conflicts H proved → (IsTrue proved → ¬ IsLinearizable conflicts H) → IsProvedOf conflicts input said (Some proved)
+proved_reported conflicts H input o None said proved one is text exact none = subst (λ s. IsProvedOf conflicts input s (Some proved)) (sym is) (
+  proved,
+  refl,
+  (
+    λ yes. (H, text, exact.0 yes),
+    λ complete. exact.1 (subst (IsComplete conflicts) (one input complete.0 H complete.1 text) complete.2),
+  ),
+  λ yes. (H, text, none yes),
+)
+proved_reported conflicts H input o (Some evidence) said proved one is text exact none =
+    subst (λ s. IsProvedOf conflicts input s (Some proved)) (sym is) (ap (λ b. Some b) exact, (H, text, none exact))

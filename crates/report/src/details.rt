@@ -10,7 +10,7 @@ ghost use Rattle.stream_io.specs.Taken.{TakesHistory};
 ghost use Rattle.report.specs.Calls.{CountsCalls};
 ghost use Rattle.report.specs.Details.{IsProvedOf, calls_reported, status_of};
 ghost use Rattle.report.specs.Findings.{HasItsEvidence};
-ghost use Rattle.report.specs.aids.Reports.{IsOnDocumentOf, IsReportOf};
+ghost use Rattle.report.specs.aids.Reports.{IsOnDocumentOf, IsProvedBy, IsReportOf};
 ghost use Rattle.report.specs.Verdict.{AnswersInput, IsAnswer, IsWitnessAnswer};
 ghost use Rattle.report.specs.Workers.{AreWorkers, HasDocument, NamesOwnDocument};
 
@@ -22,6 +22,7 @@ use api_lines::TextFault;
 use compose::{Case, Counts, Failing, Finding, Offence, RulingOut, Verdict, is_complete_case};
 use events::{Event, HashKeys, History};
 use evidence::laws::evidence_refutes;
+use history::laws::one_history;
 use result_lines::{BrokenReply, Reported};
 use std::alloc::Global;
 use std::io::Read;
@@ -85,7 +86,8 @@ pub fn calls_reported(reported: &Reported) -> Option<usize>
 // Whether it is proved that no order explains the history of the case: by evidence, or since it is complete.
 fn is_proved(case: &Case, failing: &Failing) -> bool
     requires { IfSome failing.now.evidence (Holds case.now.conflicts case.now.events) }
-    ensures { IsTrue result → ¬ IsLinearizable case.now.conflicts case.now.events }
+    ensures exact { IsProvedBy failing.now.evidence case.now.conflicts case.now.events result }
+    ensures none { IsTrue result → ¬ IsLinearizable case.now.conflicts case.now.events }
 {
     // What evidence says is known from here on, and that the case has a history.
     evidence_refutes();
@@ -152,6 +154,8 @@ pub fn case_details(
         → IsProvedOf case.now.conflicts input made.0.reported made.0.proved) }
     ensures holds { IfOk result (λ made. IfSome made.1.evidence (Holds case.now.conflicts case.now.events)) }
 {
+    // That a text is one history's is known from here on.
+    one_history();
     let (_answer, failing) = case_answer(alloc, case, ruling_out)?;
     let details = Details {
         reported: failing_reported(&failing),
@@ -220,7 +224,8 @@ pub fn check_details<T: Threads + Wait + Sync, R: Read>(
     // The number of calls is that of the history whose text the bytes are, if the answer is yes.
     ensures calls { IfOk result (λ found. IfSome (R.remaining reader.old)
         (λ input. CountsCalls input (status_of found.reported) (calls_reported found.reported))) }
-    // If it is said to be proved that no order explains the history, none does.
+    // Of a history for which no order was found it is said to be proved that there is none, exactly if evidence was
+    // found or the history is complete; and then there is none.
     ensures proved { IfOk result (λ found. IfSome (R.remaining reader.old)
         (λ input. IsProvedOf options.conflicts input found.reported found.proved)) }
     // The only errors are `Read`, `NoMemory` and `Worker`.

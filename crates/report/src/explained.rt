@@ -110,7 +110,7 @@ pub fn explained_details<T: Threads + Wait + Sync, R: Read>(
     // The line that reports it answers the bytes of the reader, as that of `check_stream` does.
     ensures answer { IfOk result (λ found. AnswersInput options.ruling_out options.conflicts (R.remaining reader.old)
         (reported_status found.details.reported) (line_of found.details.reported)) }
-    // If it is said to be proved that no order explains the history, none does.
+    // What is said to be proved is as `check_details` says.
     ensures proved { IfOk result (λ found. IfSome (R.remaining reader.old)
         (λ input. IsProvedOf options.conflicts input found.details.reported found.details.proved)) }
     // The page is made of markup of the crate `page`, numbers, and escaped texts.

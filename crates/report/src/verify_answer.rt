@@ -3,7 +3,7 @@ ghost use Rattle.places.specs.Documents.{doc_places};
 ghost use Rattle.witness.specs.Text.{witness_text};
 ghost use Rattle.history.specs.Text.{IsHistoryText};
 ghost use Rattle.result_lines.specs.Objects.{line_of};
-ghost use Rattle.report.specs.Details.{status_of};
+ghost use Rattle.report.specs.Details.{IsOfVerify, status_of};
 ghost use Rattle.report.specs.Verdict.{IsVerifyAnswer};
 
 use compose::{Counts, VerifyFault, verify};
@@ -21,9 +21,10 @@ pub fn entries_reported(
     entries: Vec<(DocId, Vec<Place>)>,
     conflicts: Conflicts,
 ) -> Result<Reported, NoMemory>
-    ensures { IfOk result (λ reported. (input witness : List ℕ) → IsHistoryText input history
+    ensures answer { IfOk result (λ reported. (input witness : List ℕ) → IsHistoryText input history
         → witness_text witness ≡ Ok (map doc_places entries.items)
         → IsVerifyAnswer conflicts input witness (status_of reported) (line_of reported)) }
+    ensures kind { IfOk result IsOfVerify }
 {
     match verify(alloc, history, entries, conflicts) {
         Ok(proof) => Ok(Reported::Verified(Counts::of(&proof))),

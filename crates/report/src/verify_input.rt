@@ -3,7 +3,7 @@ ghost use Rattle.history.specs.Text.{IsHistoryText};
 ghost use Rattle.stream_io.specs.Faults.{IsReadingFault};
 ghost use Rattle.stream_io.specs.Taken.{TakesHistory, TakesWitness};
 ghost use Rattle.result_lines.specs.Objects.{line_of};
-ghost use Rattle.report.specs.Details.{status_of};
+ghost use Rattle.report.specs.Details.{IsOfVerify, status_of};
 ghost use Rattle.report.specs.Verdict.{IsVerifyAnswer, LeavesUnread, VerifiesInputs};
 
 use crate::verify_answer::entries_reported;
@@ -24,6 +24,7 @@ fn witness_reported<Q: Read>(
     ensures answer { IfOk result (λ reported. (input : List ℕ) → IsHistoryText input history
         → IfSome (Q.remaining witness.old) (λ w. IsVerifyAnswer conflicts input w (status_of reported)
         (line_of reported))) }
+    ensures kind { IfOk result IsOfVerify }
     ensures reported { IfErr result IsReadingFault }
     ensures taken { TakesWitness (Q.remaining witness.old) (Q.remaining witness.new) }
 {
@@ -48,6 +49,8 @@ pub fn verify_reported<R: Read, Q: Read>(
     // The line that reports it answers the bytes of the two readers, as that of `verify_stream` does.
     ensures answer { IfOk result (λ reported. VerifiesInputs conflicts (R.remaining history.old)
         (Q.remaining witness.old) (status_of reported) (line_of reported)) }
+    // It is what a verify reports.
+    ensures kind { IfOk result IsOfVerify }
     // The only errors are `Read` and `NoMemory`.
     ensures reported { IfErr result IsReadingFault }
     // `taken`, `witness_taken`: No bytes after the first refused line of a text are taken but those that the

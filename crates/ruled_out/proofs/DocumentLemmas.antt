@@ -8,8 +8,8 @@ use Rattle.events.specs.declared.record.Rec.{Rec}
 use Rattle.version_pair.proofs.ListLemmas.{none_is_not_some, same_some}
 use Rattle.ruled_out.specs.declared.walk.EventWalk.{EventWalk}
 use Rattle.ruled_out.specs.Placings.{AreInOrder, IsRuledOut}
-use Rattle.ruled_out.specs.aids.Answers.{AreAnswers, answer_of}
-use Rattle.ruled_out.specs.declared.answers.AnsweredRec.{AnsweredRec}
+use Rattle.write_chain.specs.AnsweredCalls.{AreAnsweredCalls, answer_of}
+use Rattle.write_chain.specs.declared.answers.AnsweredRec.{AnsweredRec}
 use Rattle.ruled_out.specs.aids.Standing.{Answers}
 use Rattle.ruled_out.specs.aids.States.{AreEarlier, HasPassed, IsAt, PassesCalls, floor_in}
 use Rattle.ruled_out.specs.aids.Walks.{IsAnswerAt, IsWalked}
@@ -37,7 +37,7 @@ walked_start records answers walk known none zero_reached = record {
 }
 
 -- the calls up to the next reply are passed
-pub walked_up : (records : List Rec) (answers : List AnsweredRec) (i : ℕ) (a : AnsweredRec) (old new : EventWalk) → AreInOrder records → AreAnswers records answers → slice_get answers i ≡ Some a → IsWalkedTo records answers i old → PassesCalls records a.reply_at old new
+pub walked_up : (records : List Rec) (answers : List AnsweredRec) (i : ℕ) (a : AnsweredRec) (old new : EventWalk) → AreInOrder records → AreAnsweredCalls records answers → slice_get answers i ≡ Some a → IsWalkedTo records answers i old → PassesCalls records a.reply_at old new
     → IsWalked records a.reply_at (floor_in new)
 walked_up records answers i a old new order are at w passes =
     walked_on records w.event a.reply_at (floor_in new) (w.after i a (omega arith) at) silent (walked_same records w.event (floor_in old) (floor_in new) passes.floors w.walked) where
@@ -63,7 +63,7 @@ earlier_up records answers i a walk at w j r there inside =
     omega arith
 
 -- one more call has its position
-pub walked_next : (records : List Rec) (answers : List AnsweredRec) (i : ℕ) (a : AnsweredRec) (middle new : EventWalk) → AreInOrder records → AreAnswers records answers → slice_get answers i ≡ Some a → HasPassed records middle.floors.items a.reply_at
+pub walked_next : (records : List Rec) (answers : List AnsweredRec) (i : ℕ) (a : AnsweredRec) (middle new : EventWalk) → AreInOrder records → AreAnsweredCalls records answers → slice_get answers i ≡ Some a → HasPassed records middle.floors.items a.reply_at
     → Answers records a.reply_at new × (new.floors.items ≡ middle.floors.items) → IsWalkedTo records answers (i + 1) new
 walked_next records answers i a middle new order are at passed answered = record {
   known = answered.0.known;
@@ -82,7 +82,7 @@ walked_next records answers i a middle new order are at passed answered = record
       omega arith
 
 -- where all of them have, the document isn't ruled out
-pub walked_end : (records : List Rec) (answers : List AnsweredRec) (i : ℕ) (walk : EventWalk) → AreAnswers records answers → length answers ≤ i → IsWalkedTo records answers i walk → (n : ℕ) → ¬ IsRuledOut records n
+pub walked_end : (records : List Rec) (answers : List AnsweredRec) (i : ℕ) (walk : EventWalk) → AreAnsweredCalls records answers → length answers ≤ i → IsWalkedTo records answers i walk → (n : ℕ) → ¬ IsRuledOut records n
 walked_end records answers i walk are past w =
     not_ruled_out records (floor_in walk) (λ event j c y reply at heard before. (
     let entry = answered_entry records answers j c y reply are (record { at = at; heard = heard }) in

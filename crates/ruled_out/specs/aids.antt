@@ -1,5 +1,4 @@
 pub mod Walks
-pub mod Answers
 pub mod KnownPairs
 pub mod Places
 pub mod Above

@@ -1,16 +1,16 @@
 ghost use Rattle.std.specs.Prelude.{◌≡◌, IfOk, length};
 ghost use Rattle.ruled_out.specs.Reported.{reported};
 ghost use Rattle.ruled_out.specs.Placings.{AreInOrder, IsRuledOutAt};
-ghost use Rattle.ruled_out.specs.aids.Answers.{AreAnswers};
+ghost use Rattle.write_chain.specs.AnsweredCalls.{AreAnsweredCalls};
 ghost use Rattle.ruled_out.specs.aids.States.{IsAt};
 
-use crate::answers::{AnsweredRec, answers_of};
 use crate::reported::reported_records;
 use crate::walk::EventWalk;
 use doc_register::Conflicts;
 use events::Rec;
 use std::alloc::Global;
 use version_pair::NoMemory;
+use write_chain::{AnsweredRec, answers_of};
 
 // The number of the first call, in response order, that has no position.
 fn first_without_position(
@@ -19,7 +19,7 @@ fn first_without_position(
     answers: &[AnsweredRec],
 ) -> Result<Option<u64>, NoMemory>
     requires order { AreInOrder reported.now }
-    requires sorted { AreAnswers reported.now answers.now }
+    requires sorted { AreAnsweredCalls reported.now answers.now }
     requires known { IsAt reported.now walk.old }
     requires start { (length walk.old.floors.items ≡ 0) × (walk.old.reached ≡ 0) }
     ensures { IfOk result (IsRuledOutAt reported.now) }

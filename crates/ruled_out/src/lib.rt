@@ -9,7 +9,6 @@
 #![tactic(auto)]
 
 mod above;
-mod answers;
 mod cause;
 mod document;
 mod known;

@@ -1,4 +1,3 @@
-use crate::answers::{AnsweredRec, answers_of};
 use crate::cause::{Cause, cause_of};
 use crate::reported::reported_records;
 use crate::standing::{Stage, Standing, stage_of};
@@ -8,6 +7,7 @@ use doc_register::{Conflicts, Op};
 use events::Rec;
 use std::alloc::Global;
 use version_pair::{NoMemory, Pair};
+use write_chain::{AnsweredRec, answers_of};
 
 /// The earliest positions of the answered calls of a document, and why the walk over them stops, if it does:
 /// what `ruled_out_at` goes by, kept for explanations to people.

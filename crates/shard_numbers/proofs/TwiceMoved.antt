@@ -7,7 +7,7 @@ use Rattle.std.proofs.lemmas.List.Sums.{sum_by-cons}
 use Rattle.version_pair.specs.declared.pair.Pair.{Pair}
 use Rattle.version_pair.proofs.PairLemmas.{same_by_test}
 use Rattle.version_pair.proofs.ListLemmas.{none_is_not_some, same_some}
-use Rattle.doc_check.proofs.Lists.{Has}
+use Rattle.version_pair.proofs.SortedLists.{Has}
 use Rattle.shard_numbers.specs.Taken.{IsLeastTwice, IsTwice}
 
 -- ---- the test of equality

@@ -10,7 +10,7 @@ use Rattle.version_pair.specs.declared.pair.Pair.{Pair}
 use Rattle.version_pair.specs.PairOrder.{IsBelow}
 use Rattle.version_pair.proofs.PairLemmas.{same_pair}
 use Rattle.version_pair.proofs.ListLemmas.{get_within, same_some}
-use Rattle.doc_check.proofs.Lists.{not_below, not_below_then, sorted_at}
+use Rattle.version_pair.proofs.SortedLists.{not_below, not_below_then, sorted_at}
 use Rattle.doc_register.proofs.RunLemmas.{not_both_below}
 use Rattle.shard_numbers.specs.Taken.{IsAtMost, IsLeastTwice, IsTwice, by_shard}
 use Rattle.shard_numbers.proofs.TwiceMoved.{same_parts, same_test, test_itself}

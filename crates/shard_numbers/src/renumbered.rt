@@ -88,13 +88,12 @@ impl GapNumbering<'_> {
         gaps: &'g Gaps,
         filled: &mut Vec<Filled<'g>>,
     ) -> Result<Option<ListedGap<'g>>, NoMemory> {
-        let ends = gaps_by_end(alloc, gaps)?;
-        for (_, _, number) in &ends {
-            let Some(gap) = gaps.list.get(*number) else {
+        for end in &gaps_by_end(alloc, gaps)? {
+            let Some(gap) = gaps.list.get(end.gap) else {
                 continue;
             };
             let listed = ListedGap {
-                number: *number,
+                number: end.gap,
                 gap,
             };
             let Some(pairs) = self.fill(alloc, gap)? else {
@@ -106,11 +105,24 @@ impl GapNumbering<'_> {
     }
 }
 
-// Returns the shards, the upper ends and the indices of the gaps, in this order.
-fn gaps_by_end(alloc: Global, gaps: &Gaps) -> Result<Vec<(u32, Pair, usize)>, NoMemory> {
+// The upper end of a gap.
+#[derive(Clone, Copy, PartialEq, Eq, PartialOrd, Ord)]
+struct GapEnd {
+    shard: u32,
+    upper: Pair,
+    // The index of the gap in the list.
+    gap: usize,
+}
+
+// Returns the upper ends of the gaps, by shard and then by pair.
+fn gaps_by_end(alloc: Global, gaps: &Gaps) -> Result<Vec<GapEnd>, NoMemory> {
     let mut ends = Vec::with_capacity(alloc, gaps.list.len())?;
     for gap in 0..gaps.list.len() {
-        ends.push((gaps.list[gap].shard, gaps.list[gap].numbers.upper, gap))?;
+        ends.push(GapEnd {
+            shard: gaps.list[gap].shard,
+            upper: gaps.list[gap].numbers.upper,
+            gap,
+        })?;
     }
     ends.sort_unstable();
     Ok(ends)

@@ -16,13 +16,13 @@ pub struct Note {
 
 // When the line of an event was written.
 #[derive(Clone, Copy)]
-struct Moment {
+struct EventTime {
     place: usize,
     // In milliseconds since 1970.
     millisecond: i64,
 }
 
-impl Moment {
+impl EventTime {
     // Returns it as a time; `None` if it is no time that has a date.
     fn time(&self) -> Option<Timestamp> {
         Timestamp::from_millisecond(self.millisecond).ok()
@@ -39,7 +39,7 @@ pub struct EventLines {
     // For each blank line, the number of events before it; rising.
     blank: Vec<usize>,
     // Of the events whose lines say when they were written, by their positions; rising.
-    moments: Vec<Moment>,
+    moments: Vec<EventTime>,
     clients: Clients,
     // The notes, by their positions; rising.
     notes: Vec<Note>,
@@ -67,7 +67,7 @@ impl EventLines {
     /// Adds when the line of the next event was written, in milliseconds since 1970.
     pub fn add_moment(&mut self, millisecond: i64) -> Result<(), NoMemory> {
         let place = self.events;
-        self.moments.push(Moment { place, millisecond })?;
+        self.moments.push(EventTime { place, millisecond })?;
         Ok(())
     }
 

@@ -1,3 +1,4 @@
 pub mod ListLemmas
 pub mod PairLemmas
+pub mod SortedLists
 pub mod TruthLemmas

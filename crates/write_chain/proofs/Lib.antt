@@ -1,1 +1,2 @@
 mod RisesLemmas
+pub mod AnsweredCallLemmas

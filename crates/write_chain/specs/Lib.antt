@@ -1,1 +1,2 @@
+pub mod AnsweredCalls
 pub mod Chain

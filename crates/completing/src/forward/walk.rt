@@ -8,13 +8,12 @@ use crate::free::Free;
 use crate::limit::Limit;
 use crate::per_record::{PerRecord, record};
 use crate::rules::chain_write::leaves_it;
-use crate::rules::queue::first_left;
 use crate::timed::Timed;
 use doc_register::{Conflicts, Op};
 use events::Rec;
 use std::alloc::Global;
 use version_pair::{NoMemory, Pair};
-use write_chain::sort_nearly_ordered;
+use write_chain::{AnsweredRec, answers_of};
 
 /// A record that was placed.
 #[derive(Clone, Copy)]
@@ -53,7 +52,7 @@ pub struct ForwardWalk<'a> {
     /// The pairs that no document of the shard is known to use.
     pub free: Free<'a>,
     // The answered records in response order.
-    replies: Vec<Timed>,
+    replies: Vec<AnsweredRec>,
     // The conflicts on pairs in the order of their calls.
     conflicts_by_call: Vec<Timed>,
     pub placed: PerRecord<bool>,
@@ -63,18 +62,6 @@ pub struct ForwardWalk<'a> {
     pub state: SearchState,
     /// How many records may still be placed, those that are taken back included.
     pub steps_left: usize,
-}
-
-// The answered records in response order.
-fn by_reply(alloc: Global, records: &[Rec]) -> Result<Vec<Timed>, NoMemory> {
-    let mut replies = Vec::with_capacity(alloc, records.len())?;
-    for rec in 0..records.len() {
-        if let Some(heard) = records[rec].heard {
-            replies.push(Timed { at: heard.0, rec })?;
-        }
-    }
-    sort_nearly_ordered(&mut replies);
-    Ok(replies)
 }
 
 // The conflicts on pairs in the order of their calls, in which the records are.
@@ -126,7 +113,7 @@ impl ForwardWalk<'_> {
                 known.entries.len(),
                 known.named.len(),
             )?,
-            replies: by_reply(alloc, records)?,
+            replies: answers_of(alloc, records)?,
             conflicts_by_call: conflicts_by_call(alloc, records, &kinds)?,
             placed: PerRecord::new(alloc, records, false)?,
             turned: PerRecord::new(alloc, records, false)?,
@@ -158,7 +145,9 @@ impl ForwardWalk<'_> {
 
     /// Returns the index of the first reply of the answered records that are left, if any is left.
     pub fn next_reply(&self) -> Option<usize> {
-        self.replies.get(self.state.replies).map(|entry| entry.at)
+        self.replies
+            .get(self.state.replies)
+            .map(|entry| entry.reply_at)
     }
 
     /// Returns whether all answered records are placed.
@@ -226,7 +215,13 @@ impl ForwardWalk<'_> {
 
     // Passes over the replies of what is placed.
     fn pass_replies(&mut self) {
-        self.state.replies = first_left(&self.replies, self.state.replies, &self.placed);
+        for i in self.state.replies..self.replies.len() {
+            if !self.placed.of(self.replies[i].rec) {
+                self.state.replies = i;
+                return;
+            }
+        }
+        self.state.replies = self.replies.len();
     }
 
     // Places a record. (If no step is left, the number of those that are stays zero.)

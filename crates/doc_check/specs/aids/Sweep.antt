@@ -9,15 +9,16 @@ use Rattle.doc_register.specs.declared.state.Conflicts.{Conflicts}
 use Rattle.places.specs.Places.{AreValid, StepsAt}
 use Rattle.doc_check.specs.NoOrders.{AreUnpaired}
 use Rattle.events.specs.Heard.{pair_of}
+use Rattle.doc_check.specs.declared.moments.Moment.{Moment}
 use Rattle.doc_check.specs.aids.Stretches.{Fits, cap, state_in, states_of}
 
--- an index in the history, whether a reply is there, and the number of the record whose call or reply it is
-abbrev pub Moment : Type 0
-Moment = ℕ × Bool × ℕ
+-- the moment at the index t: the reply of the record numbered x if `replied`, else its call
+abbrev pub moment_at : ℕ → Bool → ℕ → Moment
+moment_at t replied x = record { index = t; is_reply = replied; rec = x }
 
 abbrev pub moments_at : ℕ → ℕ → Option (ℕ × Reply) → List Moment → List Moment
 moments_at k call None rest = rest
-moments_at k call (Some heard) rest = (call, false, k) ∷ ((heard.0, true, k) ∷ rest)
+moments_at k call (Some heard) rest = (moment_at call false k) ∷ ((moment_at heard.0 true k) ∷ rest)
 
 -- the calls and replies of the answered records, if the first record is numbered k
 abbrev pub moments_from : ℕ → List Rec → List Moment
@@ -26,21 +27,21 @@ moments_from k (r ∷ rs) = moments_at k r.call_at r.heard (moments_from (suc k)
 
 -- the record's call or reply is there, and the record was answered
 abbrev pub IsMoment : List Rec → Moment → Type 0
-IsMoment records m = (r : Rec) × (heard : ℕ × Reply) × (slice_get records m.2 ≡ Some r) × (r.heard ≡ Some heard)
-    × (IsTrue m.1 → m.0 ≡ heard.0) × ((IsTrue m.1 → ⊥) → m.0 ≡ r.call_at)
+IsMoment records m = (r : Rec) × (heard : ℕ × Reply) × (slice_get records m.rec ≡ Some r) × (r.heard ≡ Some heard)
+    × (IsTrue m.is_reply → m.index ≡ heard.0) × ((IsTrue m.is_reply → ⊥) → m.index ≡ r.call_at)
 
 -- a comes before b, or they have the same index, and a is not a reply or b is one
 abbrev pub IsUpTo : Moment → Moment → Type 0
-IsUpTo a b = (a.0 < b.0) ⊎ ((a.0 ≡ b.0) × (IsTrue a.1 → IsTrue b.1))
+IsUpTo a b = (a.index < b.index) ⊎ ((a.index ≡ b.index) × (IsTrue a.is_reply → IsTrue b.is_reply))
 
 -- the calls and replies of the answered records, from the last to the first; among those with the same index,
 -- a reply comes first
 pub record AreMoments (records : List Rec) (moments : List Moment) : Type 0 where
   pub sound : (i : ℕ) (m : Moment) → slice_get moments i ≡ Some m → IsMoment records m
   pub calls : (y : ℕ) (r : Rec) (h : ℕ × Reply) → slice_get records y ≡ Some r → r.heard ≡ Some h
-      → (i : ℕ) × (slice_get moments i ≡ Some (r.call_at, false, y))
+      → (i : ℕ) × (slice_get moments i ≡ Some (moment_at r.call_at false y))
   pub replies : (y : ℕ) (r : Rec) (h : ℕ × Reply) → slice_get records y ≡ Some r → r.heard ≡ Some h
-      → (i : ℕ) × (slice_get moments i ≡ Some (h.0, true, y))
+      → (i : ℕ) × (slice_get moments i ≡ Some (moment_at h.0 true y))
   pub falls : (i j : ℕ) (a b : Moment) → i < j → slice_get moments i ≡ Some a → slice_get moments j ≡ Some b → IsUpTo b a
 
 -- ---- the order to be found
@@ -102,16 +103,16 @@ pub record AreGiven (records : List Rec) (chain : List (Pair × ℕ)) (given : L
 -- call the bound falls to what may come before the record.
 pub record IsMet (records : List Rec) (chain : List (Pair × ℕ)) (given : List (Option ℕ)) (bound : ℕ) (m : Moment) (r : Rec) (stretch lowered : ℕ) : Type 0 where
   pub falls : lowered ≤ bound
-  pub replied : IsTrue m.1 → (lowered ≡ bound) × (IsGiven given m.2 stretch ⊎ ((slice_get given m.2 ≡ Some None)
-      × (stretch ≤ bound) × Fits records chain m.2 r stretch
-      × ((l : ℕ) → l ≤ bound → Fits records chain m.2 r l → l ≤ stretch)))
-  pub called : (IsTrue m.1 → ⊥) → IsGiven given m.2 stretch × (lowered ≤ cap (pair_of r.heard) stretch)
+  pub replied : IsTrue m.is_reply → (lowered ≡ bound) × (IsGiven given m.rec stretch ⊎ ((slice_get given m.rec ≡ Some None)
+      × (stretch ≤ bound) × Fits records chain m.rec r stretch
+      × ((l : ℕ) → l ≤ bound → Fits records chain m.rec r l → l ≤ stretch)))
+  pub called : (IsTrue m.is_reply → ⊥) → IsGiven given m.rec stretch × (lowered ≤ cap (pair_of r.heard) stretch)
       × ((lowered ≡ bound) ⊎ (lowered ≡ cap (pair_of r.heard) stretch))
 
 -- the record has no stretch yet, and if the moment is its reply, it fits no stretch up to the bound
 pub record IsStuck (records : List Rec) (chain : List (Pair × ℕ)) (given : List (Option ℕ)) (bound : ℕ) (m : Moment) (r : Rec) : Type 0 where
-  pub none : slice_get given m.2 ≡ Some None
-  pub nowhere : IsTrue m.1 → (l : ℕ) → l ≤ bound → ¬ Fits records chain m.2 r l
+  pub none : slice_get given m.rec ≡ Some None
+  pub nowhere : IsTrue m.is_reply → (l : ℕ) → l ≤ bound → ¬ Fits records chain m.rec r l
 
 -- ---- the order
 

@@ -41,30 +41,51 @@ impl Asking {
     }
 }
 
+// A write at its pair, or at the pair that it asks for: there after the writes that have exactly that pair.
+#[derive(Clone, Copy, PartialEq, Eq, PartialOrd, Ord)]
+struct WriteAtPair {
+    doc: usize,
+    pair: Pair,
+    asks: bool,
+    // Its index in the list of writes.
+    write: usize,
+}
+
+// Each write at its pair, and again at the pair that it asks for, by document and pair.
+fn writes_by_pair(alloc: Global, writes: &[WriteWithPair]) -> Result<Vec<WriteAtPair>, NoMemory> {
+    let mut marks = Vec::new(alloc);
+    for i in 0..writes.len() {
+        let own = WriteAtPair {
+            doc: writes[i].doc,
+            pair: writes[i].performed.pair,
+            asks: false,
+            write: i,
+        };
+        marks.push(own)?;
+        if let Some(pair) = writes[i].performed.op.condition() {
+            marks.push(WriteAtPair {
+                pair,
+                asks: true,
+                ..own
+            })?;
+        }
+    }
+    marks.sort_unstable();
+    Ok(marks)
+}
+
 // The first write, by its number, that comes before one whose condition is below its pair.
 fn least_ignored(
     alloc: Global,
     writes: &[WriteWithPair],
 ) -> Result<Option<WriteWithPair>, NoMemory> {
-    // Each write is in this list by its pair, and again by its condition, there after the writes that have
-    // exactly that pair.
-    let mut marks: Vec<(usize, Pair, bool, usize)> = Vec::new(alloc);
-    for i in 0..writes.len() {
-        let write = writes[i];
-        marks.push((write.doc, write.performed.pair, false, i))?;
-        if let Some(asked) = write.performed.op.condition() {
-            marks.push((write.doc, asked, true, i))?;
-        }
-    }
-    marks.sort_unstable();
     let mut asking: Option<Asking> = None;
     let mut least: Option<WriteWithPair> = None;
-    for k in 0..marks.len() {
-        let (_, _, asks, i) = marks[k];
-        let Some(write) = writes.get(i) else {
+    for mark in &writes_by_pair(alloc, writes)? {
+        let Some(write) = writes.get(mark.write) else {
             return Ok(None);
         };
-        if asks {
+        if mark.asks {
             asking = Some(Asking::with(asking, *write));
         } else if asking.is_some_and(|asking| asking.are_after(*write)) {
             least = match least {

@@ -10,14 +10,14 @@ meet-requires-clause-rec c =
     let at : slice_get c.in_ok-moments.moments.items c.loop-i.i ≡ Some c.index-moment.result.now =
     slice_get_read c.in_ok-moments.moments.items (length c.in_ok-moments.moments.items) c.loop-i.i c.index-moment.result.now refl (omega arith) c.index-moment.ensures in
     let moment = c.in_ok-moments.ensures.sound c.loop-i.i c.index-moment.result.now at in
-    slice_get_within c.args.records.now c.index-moment.result.now.2 moment.0 moment.2
+    slice_get_within c.args.records.now c.index-moment.result.now.rec moment.0 moment.2
 
 pub index_mut-requires : goal.index_mut-requires
 index_mut-requires c =
     let at : slice_get c.in_ok-moments.moments.items c.loop-i.i ≡ Some c.index-moment.result.now =
     slice_get_read c.in_ok-moments.moments.items (length c.in_ok-moments.moments.items) c.loop-i.i c.index-moment.result.now refl (omega arith) c.index-moment.ensures in
     let moment = c.in_ok-moments.ensures.sound c.loop-i.i c.index-moment.result.now at in
-    let within : c.index-moment.result.now.2 < length c.args.records.now = slice_get_within c.args.records.now c.index-moment.result.now.2 moment.0 moment.2 in
+    let within : c.index-moment.result.now.rec < length c.args.records.now = slice_get_within c.args.records.now c.index-moment.result.now.rec moment.0 moment.2 in
     let size : length c.loop-i.given.items ≡ length c.args.records.now = c.loop-i.invariant.size in
     omega arith
 
@@ -36,7 +36,7 @@ loop-i-preserved c =
     let at : slice_get c.in_ok-moments.moments.items c.loop-i.i ≡ Some c.index-moment.result.now =
     slice_get_read c.in_ok-moments.moments.items (length c.in_ok-moments.moments.items) c.loop-i.i c.index-moment.result.now refl (omega arith) c.index-moment.ensures in
     let moment = c.in_ok-moments.ensures.sound c.loop-i.i c.index-moment.result.now at in
-    subst (λ k. IsSwept c.args.records.now c.args.stretches.now.chain.items c.in_ok-moments.moments.items k (set c.loop-i.given.items c.index-moment.result.now.2 (Some c.in-Some.stretch)) c.in-Some.lowered)
+    subst (λ k. IsSwept c.args.records.now c.args.stretches.now.chain.items c.in_ok-moments.moments.items k (set c.loop-i.given.items c.index-moment.result.now.rec (Some c.in-Some.stretch)) c.in-Some.lowered)
     (sym (add-one c.loop-i.i))
     (swept_more c.args.records.now c.args.stretches.now.chain.items c.in_ok-moments.moments.items c.loop-i.i c.loop-i.given.items c.loop-i.bound c.in-Some.lowered
     c.in-Some.stretch c.index-moment.result.now moment.0 c.in_ok-moments.ensures c.loop-i.invariant at moment.2

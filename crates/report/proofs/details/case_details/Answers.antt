@@ -12,4 +12,4 @@ pub returns-clause-proved : goal.returns-clause-proved
 returns-clause-proved c = λ input is.
     let failing = c.in_ok-_answer.failing in
     proved_reported c.args.case.now.conflicts c.args.case.now.events input failing.offence failing.evidence c.failing_reported.result c.is_proved.result
-    c.failing_reported.ensures is c.is_proved.ensures
+    c.one_history.ensures c.failing_reported.ensures is c.is_proved.ensures.exact c.is_proved.ensures.none

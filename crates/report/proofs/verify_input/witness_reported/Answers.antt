@@ -12,7 +12,7 @@ pub returns-in_ok-entries_reported-in-Ok-clause-answer : goal.returns-in_ok-entr
 returns-in_ok-entries_reported-in-Ok-clause-answer g c = λ history is.
     let input = g.Q.Read.remaining c.args.witness.now in
     let read = subst (λ reported. IfSome input (λ text. MatchResult reported (λ es. witness_text text ≡ Ok (map doc_places es.items)) (λ f. witness_text text ≡ Err f))) c.in-Ok.is c.in_ok-entries.ensures.reported in
-    IfSome_then input read (λ witness reads. c.in_ok-entries_reported-in-Ok.ensures history witness is reads)
+    IfSome_then input read (λ witness reads. c.in_ok-entries_reported-in-Ok.ensures.answer history witness is reads)
 
 pub returns-in-Err-clause-answer : goal.returns-in-Err-clause-answer
 returns-in-Err-clause-answer g c = λ history is.

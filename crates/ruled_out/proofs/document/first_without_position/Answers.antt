@@ -2,12 +2,12 @@ use Rattle.std.proofs.Common.{◌≡◌, ℕ, refl, sym, subst, ◌∙◌, Some,
 use Rattle.std.proofs.lemmas.Option.{slice_get-get_or, slice_get_read}
 use Rattle.events.specs.declared.record.Rec.{Rec}
 use Rattle.version_pair.proofs.ListLemmas.{same_some}
-use Rattle.ruled_out.specs.aids.Answers.{answer_of}
+use Rattle.write_chain.specs.AnsweredCalls.{answer_of}
 use Rattle.ruled_out.specs.aids.Standing.{AnswersOrEnds}
 use Rattle.ruled_out.specs.aids.Walks.{IsAnswerAt}
 use Rattle.ruled_out.proofs.DocumentLemmas.{earlier_up, get_none, walked_end, walked_next, walked_start, walked_up}
 use Rattle.ruled_out.proofs.ReplyOrder.{entry_answered}
-use Rattle.ruled_out.specs.declared.answers.AnsweredRec.{AnsweredRec}
+use Rattle.write_chain.specs.declared.answers.AnsweredRec.{AnsweredRec}
 use Rattle.ruled_out.proofs.document.first_without_position.Goals as goal
 
 pub loop-answer-init : goal.loop-answer-init

@@ -1,8 +1,8 @@
 -- Lists by their places: what a permutation keeps, and what a sort says of two places.
 use Rattle.std.proofs.Common.{ℕ, zero, suc, ◌≡◌, ◌<◌, ◌≤◌, ◌⊎◌, inl, inr, List, [], ◌∷◌, refl, sym, ap, subst, ◌∙◌, arith, Bool, true, false, Some, slice_get, get_or, eqb, Ordering}
-use Rattle.std.specs.Prelude.{IsPermutation, IsSorted, Contains}
+use Rattle.std.specs.Prelude.{IsPermutation, IsSorted, IsTrue, Contains}
 use Rattle.std.specs.Cmp.{IsTotalOrder}
-use Rattle.std.specs.Ordering.{nat_cmp, ordering_then, is_lt}
+use Rattle.std.specs.Ordering.{bool_cmp, nat_cmp, ordering_then, is_lt}
 use Rattle.std.specs.declared.cmp.Ordering.TheVariants.{Less, Equal, Greater}
 use Rattle.std.specs.List.{IsDistinct}
 use Rattle.std.proofs.lemmas.Bool.{eq-eqb, ne_eqb, cases_eq, true≢false}
@@ -91,6 +91,18 @@ not_below_then x y p h = by_order (nat_cmp x y) refl h where
   by_order Less is unless = absurd (true≢false unless)
   by_order Equal is unless = inr (sym (ranked x y Equal is), unless)
   by_order Greater is unless = inl (ranked x y Greater is)
+
+-- not below in the whole: not below in the first part
+pub then_not : (o p : Ordering) → is_lt (ordering_then o p) ≡ false → is_lt o ≡ false
+then_not Less p not = absurd (true≢false not)
+then_not Equal p not = refl
+then_not Greater p not = refl
+
+-- a flag that isn't below a set one is set
+pub flags_up : (x y : Bool) → is_lt (bool_cmp x y) ≡ false → IsTrue y → IsTrue x
+flags_up true y not flag = refl
+flags_up false true not flag = absurd (true≢false not)
+flags_up false false not flag = flag
 
 -- ---- lists that rise
 

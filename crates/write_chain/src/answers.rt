@@ -1,6 +1,7 @@
 ghost use Rattle.std.specs.Prelude.{◌≡◌, IfOk};
-ghost use Rattle.ruled_out.specs.aids.Answers.{AreAnswers, answers_from};
+ghost use Rattle.write_chain.specs.AnsweredCalls.{AreAnsweredCalls, answers_from};
 
+use crate::nearly_ordered::sort_nearly_ordered;
 use events::Rec;
 use std::alloc::Global;
 use version_pair::NoMemory;
@@ -32,9 +33,10 @@ fn answered_calls(alloc: Global, records: &[Rec]) -> Result<Vec<AnsweredRec>, No
 
 /// Returns the answered calls in response order.
 pub fn answers_of(alloc: Global, records: &[Rec]) -> Result<Vec<AnsweredRec>, NoMemory>
-    ensures { IfOk result (λ answers. AreAnswers records.now answers.items) }
+    // They are the answered calls of the records, each once, in the order of their replies.
+    ensures { IfOk result (λ answers. AreAnsweredCalls records.now answers.items) }
 {
     let mut answers = answered_calls(alloc, records)?;
-    answers.sort_unstable();
+    sort_nearly_ordered(&mut answers);
     Ok(answers)
 }
