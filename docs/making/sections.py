@@ -86,6 +86,7 @@ SECTIONS = (
             "places/specs/Witness.antt",
             "covers/specs/Covers.antt",
             "shard_numbers/specs/Taken.antt",
+            "events/specs/TakenPairs.antt",
             "covers/specs/Answered.antt",
             "compose/specs/VerifyFaults.antt",
             "places/specs/Faults.antt",

@@ -168,7 +168,7 @@ def arguments_of(signature, equations, small):
     else the first one that an equation gives."""
     kinds = [it for it in parted(signature, "→") if not it.startswith("{")]
     kinds = [(name, it) for it in kinds[:-1] for name in (binders(it) or [""])]
-    patterns = [parted(it) for it in equations]
+    patterns = [[side for side in parted(it) if not side.startswith("{")] for it in equations]
     names = []
     for place in range(max(map(len, patterns), default=0)):
         bound, kind = kinds[place] if place < len(kinds) else ("", "")

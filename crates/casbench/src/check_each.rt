@@ -8,6 +8,7 @@ ghost use Rattle.stream_io.specs.Written.{HasAnswer};
 
 use crate::exit::greater;
 use crate::files::open_each_or;
+use crate::host::{CheckTask, Host};
 use crate::line_again::add_time;
 use crate::named_text::{NamedText, Written};
 use crate::notes::{note_calls, note_if_compressed};
@@ -16,7 +17,6 @@ use crate::outcome::{Outcome, outcome_of};
 use crate::progress_line::ProgressLine;
 use crate::stopwatch::Stopwatch;
 use command_line::Form;
-use events::HashKeys;
 use report::{
     CheckOptions, CheckProgress, Kept, Status, StreamFault, calls_reported, check_details,
     check_text, status_of,
@@ -41,10 +41,8 @@ fn named_line(alloc: Global, name: &str, line: &[u8]) -> Result<Vec<u8>, AllocEr
 }
 
 // Checks a text, and returns its status, the number of calls if that is known, and its line behind its name.
-fn check_in_line<T: Threads + Wait + Sync, S: Read>(
-    threads: &T,
-    alloc: Global,
-    keys: HashKeys,
+fn check_in_line<F, T: Threads + Wait + Sync, S: Read>(
+    host: &Host<'_, F, T>,
     name: &str,
     source: &mut S,
     options: CheckOptions,
@@ -55,20 +53,24 @@ fn check_in_line<T: Threads + Wait + Sync, S: Read>(
     ensures reported { IfErr result IsCheckFault }
     ensures alone { options.workers ≡ 1 → IfErr result IsReadingFault }
 {
-    let found = check_text(threads, alloc, keys, source, options, progress)?;
+    let found = check_text(
+        host.threads,
+        host.alloc,
+        host.keys,
+        source,
+        options,
+        progress,
+    )?;
     Ok(Written {
         status: found.answer.status,
         calls: found.calls,
-        text: named_line(alloc, name, &found.answer.text)?,
+        text: named_line(host.alloc, name, &found.answer.text)?,
     })
 }
 
 // Checks a text, and returns its status, the number of calls if that is known, and its object.
 fn check_in_object<F: Clock, T: Threads + Wait + Sync, S: Read + Seek>(
-    rt: &F,
-    threads: &T,
-    alloc: Global,
-    keys: HashKeys,
+    host: &Host<'_, F, T>,
     name: &str,
     source: &mut S,
     kept: Kept,
@@ -80,28 +82,39 @@ fn check_in_object<F: Clock, T: Threads + Wait + Sync, S: Read + Seek>(
     ensures reported { IfErr result IsCheckFault }
     ensures alone { options.workers ≡ 1 → IfErr result IsReadingFault }
 {
-    let stopwatch = Stopwatch::start(rt);
-    let mut details = check_details(threads, alloc, keys, source, options, progress, kept)?;
-    add_time(alloc, source, kept, &mut details.broken_reply)?;
+    let stopwatch = Stopwatch::start(host.rt);
+    let mut details = check_details(
+        host.threads,
+        host.alloc,
+        host.keys,
+        source,
+        options,
+        progress,
+        kept,
+    )?;
+    add_time(host.alloc, source, kept, &mut details.broken_reply)?;
     Ok(Written {
         status: status_of(&details.reported),
         calls: calls_reported(&details.reported),
-        text: details_object(alloc, name, details, None, stopwatch.milliseconds(rt))?,
+        text: details_object(
+            host.alloc,
+            name,
+            details,
+            None,
+            stopwatch.milliseconds(host.rt),
+        )?,
     })
 }
 
 // Checks a text, and returns its status, the number of calls if that is known, and what is written of it.
 fn check_in_form<F: Clock, T: Threads + Wait + Sync, S: Read + Seek>(
-    rt: &F,
-    threads: &T,
-    alloc: Global,
-    keys: HashKeys,
+    host: &Host<'_, F, T>,
     name: &str,
     source: &mut S,
     kept: Kept,
     options: CheckOptions,
-    progress: &CheckProgress,
     form: Form,
+    progress: &CheckProgress,
 ) -> Result<Written, StreamFault>
     requires workers { AreWorkers options.workers }
     ensures answered { IfOk result (IsWrittenOf options.ruling_out options.conflicts form name.now (S.remaining source.old)) }
@@ -109,10 +122,8 @@ fn check_in_form<F: Clock, T: Threads + Wait + Sync, S: Read + Seek>(
     ensures alone { options.workers ≡ 1 → IfErr result IsReadingFault }
 {
     match form {
-        Form::Lines => check_in_line(threads, alloc, keys, name, source, options, progress),
-        Form::Objects => check_in_object(
-            rt, threads, alloc, keys, name, source, kept, options, progress,
-        ),
+        Form::Lines => check_in_line(host, name, source, options, progress),
+        Form::Objects => check_in_object(host, name, source, kept, options, progress),
     }
 }
 
@@ -133,14 +144,11 @@ fn shared_out(options: CheckOptions, texts: usize) -> CheckOptions
 
 // Checks the text beside others, so many in all. It then holds what is written of it.
 fn check_named<F: Clock, T: Threads + Wait + Sync, S: Read + Seek>(
-    rt: &F,
-    threads: &T,
-    alloc: Global,
-    keys: HashKeys,
+    host: &Host<'_, F, T>,
     text: &mut NamedText<'_, S>,
     options: CheckOptions,
-    progress: &CheckProgress,
     form: Form,
+    progress: &CheckProgress,
     beside: usize,
 )
     requires some { 1 ≤ beside }
@@ -149,31 +157,17 @@ fn check_named<F: Clock, T: Threads + Wait + Sync, S: Read + Seek>(
 {
     let own = shared_out(options, beside);
     let name = text.name;
-    let written = check_in_form(
-        rt,
-        threads,
-        alloc,
-        keys,
-        name,
-        &mut text.source,
-        text.kept,
-        own,
-        progress,
-        form,
-    );
+    let written = check_in_form(host, name, &mut text.source, text.kept, own, form, progress);
     text.written = Some(written);
 }
 
 // Checks each of the texts, as many beside each other as there are workers.
 fn check_all<F: Clock + Sync, T: Threads + Wait + Sync, S: Read + Seek + Send>(
-    rt: &F,
-    threads: &T,
-    alloc: Global,
-    keys: HashKeys,
+    host: &Host<'_, F, T>,
     texts: &mut [NamedText<'_, S>],
     options: CheckOptions,
-    progress: &CheckProgress,
     form: Form,
+    progress: &CheckProgress,
 )
     requires workers { AreWorkers options.workers }
     ensures checked { AreChecked S.remaining options.ruling_out options.conflicts form options.workers texts.old texts.new }
@@ -181,16 +175,12 @@ fn check_all<F: Clock + Sync, T: Threads + Wait + Sync, S: Read + Seek + Send>(
 {
     let beside = texts.len().clamp(1, options.workers);
     for_each_mut(
-        threads,
+        host.threads,
         texts,
         beside,
         &|_, text: &mut NamedText<'_, S>|
             requires { AreWorkers options.workers × (1 ≤ beside) }
-        {
-            check_named(
-                rt, threads, alloc, keys, text, options, progress, form, beside,
-            )
-        },
+        { check_named(host, text, options, form, progress, beside) },
     );
 }
 
@@ -209,29 +199,25 @@ fn written_of<'t, S>(text: &'t NamedText<'_, S>) -> Result<&'t Written, StreamFa
 
 // Checks each of the texts, and returns what they came to, and what is written of them.
 fn checked_texts<F: Clock + Sync, T: Threads + Wait + Sync, S: Read + Seek + Send>(
-    rt: &F,
-    threads: &T,
-    alloc: Global,
-    keys: HashKeys,
+    host: &Host<'_, F, T>,
     texts: &mut [NamedText<'_, S>],
-    options: CheckOptions,
-    progress: &CheckProgress,
-    at_least: u64,
+    task: CheckTask,
     form: Form,
+    progress: &CheckProgress,
 ) -> Result<(Outcome, Vec<u8>), StreamFault>
-    requires workers { AreWorkers options.workers }
-    ensures answered { IfOk result (λ made. AnswersEach options.ruling_out options.conflicts at_least form (map (named_of S.remaining) texts.old)
+    requires workers { AreWorkers task.options.workers }
+    ensures answered { IfOk result (λ made. AnswersEach task.options.ruling_out task.options.conflicts task.at_least form (map (named_of S.remaining) texts.old)
         made.0 made.1.items) }
     ensures reported { IfErr result IsCheckFault }
-    ensures alone { options.workers ≡ 1 → IfErr result IsReadingFault }
+    ensures alone { task.options.workers ≡ 1 → IfErr result IsReadingFault }
 {
-    check_all(rt, threads, alloc, keys, texts, options, progress, form);
+    check_all(host, texts, task.options, form, progress);
     let mut outcome = Outcome::Answered(Status::Yes);
-    let mut lines = Vec::new(alloc);
+    let mut lines = Vec::new(host.alloc);
     for place in 0..texts.len() {
         let text = &texts[place];
         let written = written_of(text)?;
-        let next = outcome_of(written.status, written.calls, at_least);
+        let next = outcome_of(written.status, written.calls, task.at_least);
         outcome = greater(outcome, next);
         lines.extend_from_slice(&written.text)?;
     }
@@ -262,43 +248,29 @@ fn check_each<
     S: Read + Seek + Send + Drop,
     W: Write,
 >(
-    rt: &R,
-    threads: &T,
-    alloc: Global,
-    keys: HashKeys,
+    host: &Host<'_, R, T>,
     texts: Vec<NamedText<'_, S>>,
     writer: &mut W,
-    options: CheckOptions,
-    line: &ProgressLine,
-    at_least: u64,
+    task: CheckTask,
     form: Form,
+    line: &ProgressLine,
 ) -> Result<Outcome, StreamFault>
-    requires workers { AreWorkers options.workers }
-    ensures answered { IfOk result (λ outcome. HasAnswer (AnswersEach options.ruling_out options.conflicts at_least form (map (named_of S.remaining) texts.entry.items) outcome)
+    requires workers { AreWorkers task.options.workers }
+    ensures answered { IfOk result (λ outcome. HasAnswer (AnswersEach task.options.ruling_out task.options.conflicts task.at_least form (map (named_of S.remaining) texts.entry.items) outcome)
         (W.contents writer.old) (W.contents writer.new)) }
     ensures cut_off { IsErrOf result StreamFault.Write
-        → IsCutOffEach options.ruling_out options.conflicts at_least form (map (named_of S.remaining) texts.entry.items)
+        → IsCutOffEach task.options.ruling_out task.options.conflicts task.at_least form (map (named_of S.remaining) texts.entry.items)
         (W.contents writer.old) (W.contents writer.new) }
     ensures kept { IfErr result (λ fault. fault ≢ StreamFault.Write
         → Keeps (W.contents writer.old) (W.contents writer.new)) }
     ensures reported { IfErr result IsWorkedFault }
-    ensures alone { options.workers ≡ 1 → IfErr result IsStreamFault }
+    ensures alone { task.options.workers ≡ 1 → IfErr result IsStreamFault }
 {
     let mut texts = texts;
-    let (outcome, lines) = checked_texts(
-        rt,
-        threads,
-        alloc,
-        keys,
-        &mut texts,
-        options,
-        line.progress(),
-        at_least,
-        form,
-    )?;
-    line.end(rt, threads);
+    let (outcome, lines) = checked_texts(host, &mut texts, task, form, line.progress())?;
+    line.end(host.rt, host.threads);
     write_text(writer, &lines)?;
-    note_each(rt, alloc, &texts, at_least);
+    note_each(host.rt, host.alloc, &texts, task.at_least);
     Ok(outcome)
 }
 
@@ -311,41 +283,35 @@ fn check_each<
 /// Errors: `Read` if a file can't be opened, and then nothing is read; `Read`, `NoMemory` and `Worker`, those of the
 /// first text that has one; then `Write`.
 pub fn check_files<R, T: Threads + Wait + Sync, I: Read + Send + Drop, W: Write>(
-    rt: &R,
-    threads: &T,
-    alloc: Global,
-    keys: HashKeys,
+    host: &Host<'_, R, T>,
     files: &[&str],
     input: I,
     writer: &mut W,
-    options: CheckOptions,
-    line: &ProgressLine,
-    at_least: u64,
+    task: CheckTask,
     form: Form,
+    line: &ProgressLine,
 ) -> Result<Outcome, StreamFault>
 where
     R: Files + Eprint + Clock + Sync,
     R::File: Send,
     // There are 1 to 16 workers.
-    requires workers { AreWorkers options.workers }
+    requires workers { AreWorkers task.options.workers }
     // The writer holds the lines or objects after what it held, and they answer the bytes of the texts, in their order.
     ensures answered { IfOk result (λ outcome. (texts : List Named)
         × AreOfFiles (or_input (map (λ f. f.now) files.now)) (I.remaining input) texts
-        × HasAnswer (AnswersEach options.ruling_out options.conflicts at_least form texts outcome) (W.contents writer.old) (W.contents writer.new)) }
+        × HasAnswer (AnswersEach task.options.ruling_out task.options.conflicts task.at_least form texts outcome) (W.contents writer.old) (W.contents writer.new)) }
     // After `Write` the writer holds a prefix of such a text after what it held.
     ensures cut_off { IsErrOf result StreamFault.Write → (texts : List Named)
         × AreOfFiles (or_input (map (λ f. f.now) files.now)) (I.remaining input) texts
-        × IsCutOffEach options.ruling_out options.conflicts at_least form texts (W.contents writer.old) (W.contents writer.new) }
+        × IsCutOffEach task.options.ruling_out task.options.conflicts task.at_least form texts (W.contents writer.old) (W.contents writer.new) }
     // After any other error the writer holds what it held.
     ensures kept { IfErr result (λ fault. fault ≢ StreamFault.Write
         → Keeps (W.contents writer.old) (W.contents writer.new)) }
     // The only errors are `Read`, `Write`, `NoMemory` and `Worker`.
     ensures reported { IfErr result IsWorkedFault }
     // With one worker, the caller's thread, the error is never `Worker`.
-    ensures alone { options.workers ≡ 1 → IfErr result IsStreamFault }
+    ensures alone { task.options.workers ≡ 1 → IfErr result IsStreamFault }
 {
-    let texts = open_each_or(rt, alloc, files, input)?;
-    check_each(
-        rt, threads, alloc, keys, texts, writer, options, line, at_least, form,
-    )
+    let texts = open_each_or(host.rt, host.alloc, files, input)?;
+    check_each(host, texts, writer, task, form, line)
 }

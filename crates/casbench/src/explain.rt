@@ -10,12 +10,12 @@ ghost use Rattle.stream_io.specs.Faults.{IsCheckFault, IsStreamFault, IsWorkedFa
 ghost use Rattle.stream_io.specs.Written.{HasAnswer, HasPrefix};
 
 use crate::files::{INPUT, open_or};
+use crate::host::{ExplainTask, Host};
 use crate::objects::explained_object;
 use crate::outcome::Outcome;
 use crate::page_file::{ReadyPage, refuse_history};
 use crate::progress_line::ProgressLine;
 use command_line::{Form, PageRequest};
-use events::HashKeys;
 use report::{
     AnswerText, CheckOptions, CheckProgress, PageOptions, Status, StreamFault, View,
     explained_answer, write_answer,
@@ -41,10 +41,7 @@ fn page_options<'a>(name: &'a str, page: PageRequest<'a>) -> PageOptions<'a> {
 
 // Returns what is written of a history that is explained, in this form; and the page, if one is asked for.
 fn explained<F: Clock, T: Threads + Wait + Sync, R: Read>(
-    rt: &F,
-    threads: &T,
-    alloc: Global,
-    keys: HashKeys,
+    host: &Host<'_, F, T>,
     name: &str,
     history: &mut R,
     options: CheckOptions,
@@ -58,12 +55,16 @@ fn explained<F: Clock, T: Threads + Wait + Sync, R: Read>(
     ensures reported { IfErr result IsCheckFault }
 {
     match form {
-        Form::Lines => explained_answer(threads, alloc, keys, history, options, progress, shown),
-        Form::Objects => {
-            explained_object(
-                rt, threads, alloc, keys, name, history, options, progress, shown,
-            )
-        }
+        Form::Lines => explained_answer(
+            host.threads,
+            host.alloc,
+            host.keys,
+            history,
+            options,
+            progress,
+            shown,
+        ),
+        Form::Objects => explained_object(host, name, history, options, progress, shown),
     }
 }
 
@@ -104,48 +105,42 @@ fn write_with_page<F: Files + Eprint, W: Write>(
 // Errors, whichever comes first: `Read`, `NoMemory`, `Worker`; for a page `Write` or `NoMemory` if a new one can't be
 // written; `Write` of the writer; and `Write` if the page can't take its place.
 fn explain<F: Files + Eprint + Clock, T: Threads + Wait + Sync, R: Read, W: Write>(
-    rt: &F,
-    threads: &T,
-    alloc: Global,
-    keys: HashKeys,
+    host: &Host<'_, F, T>,
     name: &str,
     history: &mut R,
     writer: &mut W,
-    page: Option<PageRequest<'_>>,
-    options: CheckOptions,
+    task: ExplainTask<'_>,
     line: &ProgressLine,
-    form: Form,
 ) -> Result<Status, StreamFault>
-    requires workers { AreWorkers options.workers }
-    ensures explained { IfOk result (λ status. HasAnswer (ExplainsInForm form name.now
-        options.ruling_out options.conflicts (R.remaining history.old) status) (W.contents writer.old) (W.contents writer.new)) }
+    requires workers { AreWorkers task.options.workers }
+    ensures explained { IfOk result (λ status. HasAnswer (ExplainsInForm task.entry.form name.now
+        task.entry.options.ruling_out task.entry.options.conflicts (R.remaining history.old) status) (W.contents writer.old) (W.contents writer.new)) }
     ensures cut_off { IsErrOf result StreamFault.Write
-        → HasPrefix (ExplainsInForm form name.now options.ruling_out options.conflicts
+        → HasPrefix (ExplainsInForm task.entry.form name.now task.entry.options.ruling_out task.entry.options.conflicts
         (R.remaining history.old)) (W.contents writer.old) (W.contents writer.new)
         ⊎ Keeps (W.contents writer.old) (W.contents writer.new) }
     ensures kept { IfErr result (λ fault. fault ≢ StreamFault.Write
         → Keeps (W.contents writer.old) (W.contents writer.new)) }
     ensures reported { IfErr result IsWorkedFault }
 {
-    let shown = match page {
+    let shown = match task.page {
         Some(page) => Some(page_options(name, page)),
         None => None,
     };
     let (answer, made) = explained(
-        rt,
-        threads,
-        alloc,
-        keys,
+        host,
         name,
         history,
-        options,
+        task.options,
         line.progress(),
         shown,
-        form,
+        task.form,
     )?;
-    line.end(rt, threads);
-    match (page, &made) {
-        (Some(page), Some(made)) => write_with_page(rt, alloc, writer, &answer, page.path, made),
+    line.end(host.rt, host.threads);
+    match (task.page, &made) {
+        (Some(page), Some(made)) => {
+            write_with_page(host.rt, host.alloc, writer, &answer, page.path, made)
+        }
         _ => write_answer(writer, &answer),
     }
 }
@@ -157,27 +152,22 @@ fn explain<F: Files + Eprint + Clock, T: Threads + Wait + Sync, R: Read, W: Writ
 /// those of `report::explain_stream`; for a page `Write` or `NoMemory` if a new one can't be written; `Write` of the
 /// writer; and `Write` if the page can't take its place. It waits as `report::check_stream` does.
 pub fn explain_file<F: Files + Eprint + Clock, T: Threads + Wait + Sync, I: Read + Drop, W: Write>(
-    rt: &F,
-    threads: &T,
-    alloc: Global,
-    keys: HashKeys,
+    host: &Host<'_, F, T>,
     file: Option<&str>,
     input: I,
     writer: &mut W,
-    page: Option<PageRequest<'_>>,
-    options: CheckOptions,
+    task: ExplainTask<'_>,
     line: &ProgressLine,
-    form: Form,
 ) -> Result<Outcome, StreamFault>
     // There are 1 to 16 workers.
-    requires workers { AreWorkers options.workers }
+    requires workers { AreWorkers task.options.workers }
     // If no file is named, or `-`, the writer holds what is written of the input, after what it held.
     ensures explained { names_input (option_map (λ t. t.now) file.entry) ≡ true
-        → IfOk result (IsAnswerWith (λ status. HasAnswer (ExplainsInForm form (name_of (option_map (λ t. t.now) file.entry))
-        options.ruling_out options.conflicts (I.remaining input) status) (W.contents writer.old) (W.contents writer.new))) }
+        → IfOk result (IsAnswerWith (λ status. HasAnswer (ExplainsInForm task.entry.form (name_of (option_map (λ t. t.now) file.entry))
+        task.entry.options.ruling_out task.entry.options.conflicts (I.remaining input) status) (W.contents writer.old) (W.contents writer.new))) }
     // After `Write` it then holds a prefix of that, or no more than it held, since a page can fail before.
     ensures cut_off { IsErrOf result StreamFault.Write → names_input (option_map (λ t. t.now) file.entry) ≡ true
-        → HasPrefix (ExplainsInForm form (name_of (option_map (λ t. t.now) file.entry)) options.ruling_out options.conflicts
+        → HasPrefix (ExplainsInForm task.entry.form (name_of (option_map (λ t. t.now) file.entry)) task.entry.options.ruling_out task.entry.options.conflicts
         (I.remaining input)) (W.contents writer.old) (W.contents writer.new)
         ⊎ Keeps (W.contents writer.old) (W.contents writer.new) }
     // After any other error it holds what it held.
@@ -186,21 +176,9 @@ pub fn explain_file<F: Files + Eprint + Clock, T: Threads + Wait + Sync, I: Read
     // The only errors are `Read`, `Write`, `NoMemory` and `Worker`.
     ensures reported { IfErr result IsWorkedFault }
 {
-    let mut history = open_or(rt, file, input)?;
-    refuse_history(rt, page.map(|page| page.path), &history)?;
+    let mut history = open_or(host.rt, file, input)?;
+    refuse_history(host.rt, task.page.map(|page| page.path), &history)?;
     let name = file.unwrap_or(INPUT);
-    let status = explain(
-        rt,
-        threads,
-        alloc,
-        keys,
-        name,
-        &mut history,
-        writer,
-        page,
-        options,
-        line,
-        form,
-    )?;
+    let status = explain(host, name, &mut history, writer, task, line)?;
     Ok(Outcome::Answered(status))
 }

@@ -13,6 +13,7 @@ mod check_each;
 mod exit;
 mod explain;
 mod files;
+mod host;
 mod line_again;
 mod named_text;
 mod notes;
@@ -32,6 +33,7 @@ use clap::error::ErrorKind;
 use command_line::{Request, read_request};
 use events::HashKeys;
 use exit::{ARGUMENTS_REFUSED, arguments_code, fault_code, outcome_code};
+use host::Host;
 use notes::{is_typed, note_compressed, note_terminal};
 use outcome::Outcome;
 use output::Output;
@@ -124,18 +126,14 @@ fn main(rt: HostRuntime) -> ExitCode {
             let _ = thread::spawn(&rt, move || shared.show_until_ended(&rt));
         }
     }
-    let keys = drawn_keys(&rt);
-    let mut output = Output::new(rt.stdout());
-    let done = run(
+    let host = Host {
+        rt: &rt,
+        threads: &rt,
         alloc,
-        keys,
-        &rt,
-        &rt,
-        rt.stdin(),
-        &mut output,
-        &request,
-        &line,
-    );
+        keys: drawn_keys(&rt),
+    };
+    let mut output = Output::new(rt.stdout());
+    let done = run(&host, rt.stdin(), &mut output, &request, &line);
     line.end(&rt, &rt);
     match done {
         Ok(outcome) => {

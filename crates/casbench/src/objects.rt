@@ -13,9 +13,9 @@ ghost use Rattle.report.specs.Workers.{AreWorkers};
 ghost use Rattle.stream_io.specs.Faults.{IsCheckFault, IsStreamFault};
 ghost use Rattle.stream_io.specs.Written.{HasAnswer, HasPrefix};
 
+use crate::host::Host;
 use crate::stopwatch::Stopwatch;
 use doc_register::Conflicts;
-use events::HashKeys;
 use report::{
     AnswerText, CheckOptions, CheckProgress, Details, ExplainedDetails, PageOptions, RulingOut,
     Status, StreamFault, Witnessed, explained_details, status_of, verify_reported, witness_details,
@@ -77,10 +77,8 @@ fn witnessed_answer(
 
 /// Writes the witness of a history as `report::witness_stream` does; or, in place of a line, an object of JSON.
 /// It has the same errors.
-pub fn witness_in_json<C: Clock, R: Read, W: Write>(
-    clock: &C,
-    alloc: Global,
-    keys: HashKeys,
+pub fn witness_in_json<C: Clock, T, R: Read, W: Write>(
+    host: &Host<'_, C, T>,
     name: &str,
     history: &mut R,
     writer: &mut W,
@@ -100,9 +98,9 @@ pub fn witness_in_json<C: Clock, R: Read, W: Write>(
     // The only errors are `Read`, `Write` and `NoMemory`.
     ensures reported { IfErr result IsStreamFault }
 {
-    let stopwatch = Stopwatch::start(clock);
-    let found = witness_details(alloc, keys, history, conflicts, ruling_out)?;
-    let answer = witnessed_answer(alloc, name, found, stopwatch.milliseconds(clock))?;
+    let stopwatch = Stopwatch::start(host.rt);
+    let found = witness_details(host.alloc, host.keys, history, conflicts, ruling_out)?;
+    let answer = witnessed_answer(host.alloc, name, found, stopwatch.milliseconds(host.rt))?;
     write_answer(writer, &answer)
 }
 
@@ -142,10 +140,8 @@ fn verified_object<'a>(
 
 /// Checks a witness against a history as `report::verify_stream` does, and writes an object of JSON in place of
 /// its line. The texts have these names. It has the same errors.
-pub fn verify_in_json<C: Clock, R: Read, Q: Read, W: Write>(
-    clock: &C,
-    alloc: Global,
-    keys: HashKeys,
+pub fn verify_in_json<C: Clock, T, R: Read, Q: Read, W: Write>(
+    host: &Host<'_, C, T>,
     name: &str,
     witness_name: &str,
     history: &mut R,
@@ -169,15 +165,15 @@ pub fn verify_in_json<C: Clock, R: Read, Q: Read, W: Write>(
     // Nothing of the witness is taken if the history text is refused.
     ensures unread { LeavesUnread (R.remaining history.old) (Q.remaining witness.old) (Q.remaining witness.new) }
 {
-    let stopwatch = Stopwatch::start(clock);
-    let reported = verify_reported(alloc, keys, history, witness, conflicts)?;
+    let stopwatch = Stopwatch::start(host.rt);
+    let reported = verify_reported(host.alloc, host.keys, history, witness, conflicts)?;
     let status = status_of(&reported);
     let text = verified_object(
-        alloc,
+        host.alloc,
         name,
         witness_name,
         &reported,
-        stopwatch.milliseconds(clock),
+        stopwatch.milliseconds(host.rt),
     )?;
     write_answer(writer, &AnswerText { status, text })
 }
@@ -185,10 +181,7 @@ pub fn verify_in_json<C: Clock, R: Read, Q: Read, W: Write>(
 /// Returns the object of what a check finds in the text of a reader, as `report::explained_details` does, with its
 /// explanation; and that as a page, if one is asked for. The text has this name. It has the same errors.
 pub fn explained_object<C: Clock, T: Threads + Wait + Sync, R: Read>(
-    clock: &C,
-    threads: &T,
-    alloc: Global,
-    keys: HashKeys,
+    host: &Host<'_, C, T>,
     name: &str,
     history: &mut R,
     options: CheckOptions,
@@ -203,16 +196,24 @@ pub fn explained_object<C: Clock, T: Threads + Wait + Sync, R: Read>(
     // The only errors are `Read`, `NoMemory` and `Worker`.
     ensures reported { IfErr result IsCheckFault }
 {
-    let stopwatch = Stopwatch::start(clock);
-    let found = explained_details(threads, alloc, keys, history, options, progress, shown)?;
+    let stopwatch = Stopwatch::start(host.rt);
+    let found = explained_details(
+        host.threads,
+        host.alloc,
+        host.keys,
+        history,
+        options,
+        progress,
+        shown,
+    )?;
     let ExplainedDetails {
         details,
         explanation,
         page,
     } = found;
     let status = status_of(&details.reported);
-    let milliseconds = stopwatch.milliseconds(clock);
+    let milliseconds = stopwatch.milliseconds(host.rt);
     let explanation = Some(explanation.as_str());
-    let text = details_object(alloc, name, details, explanation, milliseconds)?;
+    let text = details_object(host.alloc, name, details, explanation, milliseconds)?;
     Ok((AnswerText { status, text }, page))
 }

@@ -8,6 +8,7 @@ use crate::bulk::bulk_files;
 use crate::check::check_file;
 use crate::check_each::check_files;
 use crate::explain::explain_file;
+use crate::host::{CheckTask, ExplainTask, Host};
 use crate::outcome::Outcome;
 use crate::progress_line::ProgressLine;
 use crate::search_reporter::SearchReporter;
@@ -16,11 +17,9 @@ use crate::witness_file::witness_file;
 use command_line::Request;
 use disturbances::DisturbedGroup;
 use doc_register::Conflicts;
-use events::HashKeys;
 use recorded_runs::run_played_stream;
 use report::{CheckOptions, RulingOut, StreamFault};
 use seed_search::search_stream;
-use std::alloc::Global;
 use std::io::{Read, Write};
 use std::rt::Files;
 use std::sync::Wait;
@@ -42,21 +41,17 @@ fn options_of(workers: u64, conflicts: Conflicts, ruling_out: RulingOut) -> Chec
     }
 }
 
-/// Does what the arguments ask for: opens the files in the order in which they were named, `-` being the
-/// input, then reads, and writes the answer. Workers run on `threads`; ids and pairs are found by hashes with
-/// these keys. A check notes what it is doing, and clears the progress line before it writes the answer. No clause says
-/// what a file has, and so what is written of one, as of one text at least of a verify and a bulk: that what a file has
-/// is passed on is tested, not proved.
+/// Does what the arguments ask for: opens the files in the order in which they were named, `-` being the input, then
+/// reads, and writes the answer. A check notes what it is doing, and clears the progress line before it writes the
+/// answer. No clause says what a file has, and so what is written of one, as of one text at least of a verify and a
+/// bulk: that what a file has is passed on is tested, not proved.
 ///
 /// Errors, in this order: `Read` if a file can't be opened, which is then named on standard error: nothing
 /// was read then; for an `explain` with a page `Write` if the page is the history's own file; then those of
 /// what does it: `check_stream`, `witness_stream`, `verify_stream`, `bulk_stream`, `explain_stream`,
 /// `run_played_stream`, or `search_stream` with `--until`. It waits as these do.
 pub fn run<R, T: Threads + Wait + Sync, I: Read + Send + Drop, W: Write>(
-    alloc: Global,
-    keys: HashKeys,
-    rt: &R,
-    threads: &T,
+    host: &Host<'_, R, T>,
     input: I,
     writer: &mut W,
     request: &Request<'_>,
@@ -86,10 +81,11 @@ where
             ruling_out,
             at_least,
         } => {
-            let options = options_of(workers, conflicts, ruling_out);
-            check_file(
-                rt, threads, alloc, keys, file, input, writer, options, line, at_least,
-            )
+            let task = CheckTask {
+                options: options_of(workers, conflicts, ruling_out),
+                at_least,
+            };
+            check_file(host, file, input, writer, task, line)
         }
         Request::CheckEach {
             ref files,
@@ -99,43 +95,36 @@ where
             ruling_out,
             at_least,
         } => {
-            let options = options_of(workers, conflicts, ruling_out);
-            check_files(
-                rt, threads, alloc, keys, files, input, writer, options, line, at_least, form,
-            )
+            let task = CheckTask {
+                options: options_of(workers, conflicts, ruling_out),
+                at_least,
+            };
+            check_files(host, files, input, writer, task, form, line)
         }
         Request::Witness {
             file,
             form,
             conflicts,
             ruling_out,
-        } => {
-            witness_file(
-                rt, alloc, keys, file, input, writer, form, conflicts, ruling_out,
-            )
-        }
+        } => { witness_file(host, file, input, writer, form, conflicts, ruling_out) }
         Request::Verify {
             history,
             witness,
             form,
             conflicts,
-        } => {
-            verify_files(
-                rt, alloc, keys, history, witness, input, writer, form, conflicts,
-            )
-        }
+        } => { verify_files(host, history, witness, input, writer, form, conflicts) }
         Request::Bulk { body, reply, first } => {
-            bulk_files(rt, alloc, body, reply, first, input, writer)
+            bulk_files(host.rt, host.alloc, body, reply, first, input, writer)
         }
         Request::Run(setting, manner) => {
-            let status = run_played_stream(threads, alloc, &setting, &manner, writer)?;
+            let status = run_played_stream(host.threads, host.alloc, &setting, &manner, writer)?;
             Ok(Outcome::Answered(status))
         }
         Request::Search(seeds, setting, disturbance) => {
-            let watch = SearchReporter::new(rt, setting, disturbance);
+            let watch = SearchReporter::new(host.rt, setting, disturbance);
             let status = search_stream(
-                threads,
-                alloc,
+                host.threads,
+                host.alloc,
                 seeds,
                 &setting,
                 disturbance,
@@ -152,10 +141,12 @@ where
             ruling_out,
             page,
         } => {
-            let options = options_of(workers, conflicts, ruling_out);
-            explain_file(
-                rt, threads, alloc, keys, file, input, writer, page, options, line, form,
-            )
+            let task = ExplainTask {
+                options: options_of(workers, conflicts, ruling_out),
+                form,
+                page,
+            };
+            explain_file(host, file, input, writer, task, line)
         }
     }
 }

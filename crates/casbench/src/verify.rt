@@ -5,13 +5,12 @@ ghost use Rattle.stream_io.specs.Faults.{IsStreamFault};
 ghost use Rattle.stream_io.specs.Written.{HasAnswer, HasPrefix};
 
 use crate::files::open_both;
+use crate::host::Host;
 use crate::objects::verify_in_json;
 use crate::outcome::Outcome;
 use command_line::Form;
 use doc_register::Conflicts;
-use events::HashKeys;
 use report::{Status, StreamFault, verify_stream};
-use std::alloc::Global;
 use std::io::{Read, Write};
 use std::rt::Files;
 use std::time::Clock;
@@ -20,10 +19,8 @@ use std::time::Clock;
 /// answers in this form.
 ///
 /// Errors: those of `report::verify_stream`.
-pub fn verify_texts<C: Clock, R: Read, Q: Read, W: Write>(
-    clock: &C,
-    alloc: Global,
-    keys: HashKeys,
+pub fn verify_texts<C: Clock, T, R: Read, Q: Read, W: Write>(
+    host: &Host<'_, C, T>,
     name: &str,
     witness_name: &str,
     history: &mut R,
@@ -46,12 +43,10 @@ pub fn verify_texts<C: Clock, R: Read, Q: Read, W: Write>(
     ensures reported { IfErr result IsStreamFault }
 {
     match form {
-        Form::Lines => verify_stream(alloc, keys, history, witness, writer, conflicts),
+        Form::Lines => { verify_stream(host.alloc, host.keys, history, witness, writer, conflicts) }
         Form::Objects => {
             verify_in_json(
-                clock,
-                alloc,
-                keys,
+                host,
                 name,
                 witness_name,
                 history,
@@ -67,10 +62,8 @@ pub fn verify_texts<C: Clock, R: Read, Q: Read, W: Write>(
 /// answers in this form. The file `-` is the input.
 ///
 /// Errors: `Read` if a file can't be opened; then those of `report::verify_stream`.
-pub fn verify_files<R: Files + Eprint + Clock, I: Read + Drop, W: Write>(
-    rt: &R,
-    alloc: Global,
-    keys: HashKeys,
+pub fn verify_files<R: Files + Eprint + Clock, T, I: Read + Drop, W: Write>(
+    host: &Host<'_, R, T>,
     history: &str,
     witness: &str,
     input: I,
@@ -84,11 +77,9 @@ pub fn verify_files<R: Files + Eprint + Clock, I: Read + Drop, W: Write>(
     // The only errors are `Read`, `Write` and `NoMemory`.
     ensures reported { IfErr result IsStreamFault }
 {
-    let (mut first, mut second) = open_both(rt, history, witness, input)?;
+    let (mut first, mut second) = open_both(host.rt, history, witness, input)?;
     let status = verify_texts(
-        rt,
-        alloc,
-        keys,
+        host,
         history,
         witness,
         &mut first,

@@ -7,13 +7,12 @@ ghost use Rattle.stream_io.specs.Faults.{IsStreamFault};
 ghost use Rattle.stream_io.specs.Written.{HasAnswer, HasPrefix};
 
 use crate::files::{INPUT, open_or};
+use crate::host::Host;
 use crate::objects::witness_in_json;
 use crate::outcome::Outcome;
 use command_line::Form;
 use doc_register::Conflicts;
-use events::HashKeys;
 use report::{RulingOut, StreamFault, witness_stream};
-use std::alloc::Global;
 use std::io::{Read, Write};
 use std::rt::Files;
 use std::time::Clock;
@@ -22,10 +21,8 @@ use std::time::Clock;
 /// none, in this form.
 ///
 /// Errors: `Read` if the file can't be opened; then those of `report::witness_stream`.
-pub fn witness_file<R: Files + Eprint + Clock, I: Read + Drop, W: Write>(
-    rt: &R,
-    alloc: Global,
-    keys: HashKeys,
+pub fn witness_file<R: Files + Eprint + Clock, T, I: Read + Drop, W: Write>(
+    host: &Host<'_, R, T>,
     file: Option<&str>,
     input: I,
     writer: &mut W,
@@ -47,21 +44,19 @@ pub fn witness_file<R: Files + Eprint + Clock, I: Read + Drop, W: Write>(
     // The only errors are `Read`, `Write` and `NoMemory`.
     ensures reported { IfErr result IsStreamFault }
 {
-    let mut history = open_or(rt, file, input)?;
+    let mut history = open_or(host.rt, file, input)?;
     let status = match form {
-        Form::Lines => witness_stream(alloc, keys, &mut history, writer, conflicts, ruling_out)?,
+        Form::Lines => witness_stream(
+            host.alloc,
+            host.keys,
+            &mut history,
+            writer,
+            conflicts,
+            ruling_out,
+        )?,
         Form::Objects => {
             let name = file.unwrap_or(INPUT);
-            witness_in_json(
-                rt,
-                alloc,
-                keys,
-                name,
-                &mut history,
-                writer,
-                conflicts,
-                ruling_out,
-            )?
+            witness_in_json(host, name, &mut history, writer, conflicts, ruling_out)?
         }
     };
     Ok(Outcome::Answered(status))

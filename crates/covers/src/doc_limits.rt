@@ -1,4 +1,4 @@
-use completing::Limit;
+use completing_forward::Limit;
 use std::alloc::Global;
 use version_pair::NoMemory;
 

@@ -3,7 +3,7 @@ ghost use Rattle.covers.specs.aids.Searched.{IsAlike};
 
 use crate::part::OrderPart;
 use crate::reordered::reordered_copy;
-use completing::{ForwardSearch, Limit, search_forward};
+use completing_forward::{ForwardSearch, Limit, search_forward};
 use doc_register::Conflicts;
 use events::{Rec, Seen};
 use places::{DocWitness, Place};

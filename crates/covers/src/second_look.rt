@@ -8,7 +8,7 @@ use crate::joined::witnesses_of;
 use doc_check::{DocAnswer, OrderAmong, answer_among, is_complete};
 use events::{Front, Seen};
 use places::DocWitness;
-use shard_numbers::{Gaps, UsedPairs, shard_of};
+use shard_numbers::{Gaps, ShownCalls, UsedPairs, shard_of};
 use std::alloc::Global;
 use version_pair::{NoMemory, Pair};
 
@@ -88,6 +88,22 @@ fn is_hopeless(answers: &[DocAnswer]) -> bool {
     false
 }
 
+// Returns the pairs that the calls of these documents show to be in use.
+fn used_by(
+    alloc: Global,
+    history: &Front<'_>,
+    answers: &[DocAnswer],
+) -> Result<UsedPairs, NoMemory> {
+    let mut documents = Vec::with_capacity(alloc, answers.len())?;
+    for answer in answers {
+        documents.push(ShownCalls {
+            shard: shard_of(history, answer.id()),
+            records: answer.records(),
+        })?;
+    }
+    UsedPairs::shown(alloc, &documents)
+}
+
 /// Returns orders of all documents, with those without one searched again, given which pairs the documents of
 /// their shards use. `None` if an order isn't found.
 pub fn orders_again(
@@ -102,7 +118,7 @@ pub fn orders_again(
     if is_hopeless(&answers) {
         return Ok(None);
     }
-    let used = UsedPairs::shown(alloc, history, &answers)?;
+    let used = used_by(alloc, history, &answers)?;
     let known = SearchContext {
         seen: history.seen(),
         used: &used,

@@ -10,7 +10,7 @@ use crate::joined::{Joined, joined_again};
 use crate::nearby::{Nearby, PartSearch};
 use crate::reordered::with_reordered;
 use crate::second_look::SearchContext;
-use completing::Limit;
+use completing_forward::Limit;
 use events::Front;
 use places::{DocWitness, Place};
 use shard_numbers::{Gap, Gaps, Shortage};

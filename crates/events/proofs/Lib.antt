@@ -19,3 +19,4 @@ pub mod PlaceLemmas
 mod CutLemmas
 mod FrontLemmas
 mod LateCalls
+pub mod TakenPairLemmas

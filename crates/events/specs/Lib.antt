@@ -3,6 +3,7 @@ pub mod Heard
 pub mod Refusal
 pub mod Order
 pub mod Seen
+pub mod TakenPairs
 pub mod Laws
 pub mod aids
 pub mod Keys

@@ -22,6 +22,7 @@ mod record;
 mod records;
 mod refusal;
 mod seen;
+mod taken_pair;
 
 pub use event::Event;
 pub use fault::HistFault;
@@ -30,3 +31,4 @@ pub use hash_keys::HashKeys;
 pub use history::{History, MOST_EVENTS};
 pub use record::Rec;
 pub use seen::Seen;
+pub use taken_pair::{TakenPair, TakesPair, next_taken_again};

@@ -1,4 +1,4 @@
-use events::{History, Rec};
+use events::{History, Rec, TakenPair, next_taken_again};
 use std::alloc::Global;
 use version_pair::{NoMemory, Pair};
 
@@ -57,23 +57,18 @@ fn first_below(alloc: Global, records: &[Rec]) -> Result<Option<usize>, NoMemory
     Ok(first)
 }
 
-// A pair of a shard that a reply gives.
-#[derive(Clone, Copy, PartialEq, Eq, PartialOrd, Ord)]
-struct GivenPair {
-    shard: u32,
-    pair: Pair,
-    // The index of the reply.
-    place: usize,
-}
-
 // Adds the pairs that are given to the calls of a document.
-fn note_given(given: &mut Vec<GivenPair>, shard: u32, records: &[Rec]) -> Result<(), NoMemory> {
+fn note_given(
+    given: &mut Vec<TakenPair<usize>>,
+    shard: u32,
+    records: &[Rec],
+) -> Result<(), NoMemory> {
     for found in records {
         if let (Some(heard), Some(pair)) = (found.heard, found.pair_taken()) {
-            given.push(GivenPair {
+            given.push(TakenPair {
                 shard,
                 pair,
-                place: heard.0,
+                by: heard.0,
             })?;
         }
     }
@@ -81,13 +76,12 @@ fn note_given(given: &mut Vec<GivenPair>, shard: u32, records: &[Rec]) -> Result
 }
 
 // The first reply that gives a pair of its shard for the second time. The list must be sorted.
-fn first_given_twice(given: &[GivenPair]) -> Option<usize> {
+fn first_given_twice(given: &[TakenPair<usize>]) -> Option<usize> {
     let mut first = None;
-    for i in 1..given.len() {
-        let (before, entry) = (given[i - 1], given[i]);
-        if entry.shard == before.shard && entry.pair == before.pair {
-            first = earlier(entry.place, first);
-        }
+    let mut from = 1;
+    while let Some(again) = next_taken_again(given, from) {
+        first = earlier(given[again].by, first);
+        from = again + 1;
     }
     first
 }

@@ -1,34 +1,14 @@
 -- What stands twice in a list stands twice in it in any other order: the number of its places stays.
-use Rattle.std.proofs.Common.{ℕ, zero, suc, ◌+◌, ◌≡◌, ◌≤◌, ◌⊎◌, inl, inr, List, [], ◌∷◌, refl, sym, ap, subst, ◌∙◌, arith, Bool, true, false, cond, Option, Some, None, nat_eq, rules}
-use Rattle.std.specs.Prelude.{IsPermutation, ◌&&◌}
+use Rattle.std.proofs.Common.{ℕ, zero, suc, ◌+◌, ◌≡◌, ◌≤◌, ◌⊎◌, inl, inr, List, [], ◌∷◌, refl, sym, ap, subst, ◌∙◌, arith, Bool, true, false, cond, Option, Some, None}
+use Rattle.std.specs.Prelude.{IsPermutation}
 use Rattle.std.specs.List.{sum_by}
 use Rattle.std.proofs.lemmas.List.Sorted.{IsPermutation-sym, sum_by-IsPermutation}
 use Rattle.std.proofs.lemmas.List.Sums.{sum_by-cons}
 use Rattle.version_pair.specs.declared.pair.Pair.{Pair}
-use Rattle.version_pair.proofs.PairLemmas.{same_by_test}
 use Rattle.version_pair.proofs.ListLemmas.{none_is_not_some, same_some}
 use Rattle.version_pair.proofs.SortedLists.{Has}
+use Rattle.events.proofs.TakenPairLemmas.{same_from_test, same_test, test_itself}
 use Rattle.shard_numbers.specs.Taken.{IsLeastTwice, IsTwice}
-
--- ---- the test of equality
-
--- two are the same where their shards and their pairs are
-pub same_parts : (x y : ℕ × Pair) → x.0 ≡ y.0 → x.1 ≡ y.1 → x ≡ y
-same_parts x y shard pair =
-    let first : x ≡ (y.0, x.1) = ap (λ g. (g, x.1)) shard in
-    first ∙ ap (λ q. (y.0, q)) pair
-
--- the test by which pairs with their shards are told apart
-abbrev pub same_test : ℕ × Pair → ℕ × Pair → Bool
-same_test x y = nat_eq x.0 y.0 && (nat_eq x.1.term y.1.term && nat_eq x.1.seq y.1.seq)
-
--- what it lets through is the same
-pub same_from_test : (x y : ℕ × Pair) → same_test x y ≡ true → x ≡ y
-same_from_test x y h = same_parts x y (search (rules, h)) (same_by_test x.1 y.1 (search (rules, h)))
-
--- an element is the same as itself
-pub test_itself : (x : ℕ × Pair) → same_test x x ≡ true
-test_itself x = search rules
 
 -- ---- the number of places
 

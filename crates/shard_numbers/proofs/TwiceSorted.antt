@@ -1,19 +1,20 @@
 -- In a sorted list what stands twice stands beside itself, and the first that does is the least.
-use Rattle.std.proofs.Common.{ℕ, suc, ◌+◌, ◌-◌, ◌≡◌, ◌<◌, ◌≤◌, ◌⊎◌, inl, inr, List, sym, ap, subst, ◌∙◌, arith, false, Some, None, slice_get, length}
+use Rattle.std.proofs.Common.{ℕ, suc, ◌-◌, ◌≡◌, ◌<◌, ◌≤◌, ◌⊎◌, inl, inr, List, refl, sym, ap, ◌∙◌, arith, false, Some, None, slice_get, length}
 use Rattle.std.specs.Prelude.{IsSorted}
 use Rattle.std.specs.Cmp.{IsTotalOrder}
 use Rattle.std.specs.Ordering.{is_lt, nat_cmp, ordering_then}
-use Rattle.std.proofs.lemmas.Bool.{cases_lt, false≢true}
+use Rattle.std.proofs.lemmas.Bool.{cases_lt}
 use Rattle.std.proofs.lemmas.Cmp.{nat_cmp_total, on_total, then_total}
 use Rattle.std.proofs.lemmas.Option.{slice_get_within}
 use Rattle.version_pair.specs.declared.pair.Pair.{Pair}
 use Rattle.version_pair.specs.PairOrder.{IsBelow}
 use Rattle.version_pair.proofs.PairLemmas.{same_pair}
-use Rattle.version_pair.proofs.ListLemmas.{get_within, same_some}
+use Rattle.version_pair.proofs.ListLemmas.{get_within}
 use Rattle.version_pair.proofs.SortedLists.{not_below, not_below_then, sorted_at}
 use Rattle.doc_register.proofs.RunLemmas.{not_both_below}
 use Rattle.shard_numbers.specs.Taken.{IsAtMost, IsLeastTwice, IsTwice, by_shard}
-use Rattle.shard_numbers.proofs.TwiceMoved.{same_parts, same_test, test_itself}
+use Rattle.events.proofs.TakenPairLemmas.{same_parts}
+use Rattle.events.specs.TakenPairs.{AreApart}
 
 -- ---- the order
 
@@ -65,26 +66,8 @@ next_same xs i j x sorted less at bt =
 
 -- ---- the first that stands beside itself
 
--- of the first k elements none stands beside itself
-abbrev pub AreApart : List (ℕ × Pair) → ℕ → Type 0
-AreApart xs k = (i : ℕ) (x : ℕ × Pair) → suc i < k → slice_get xs i ≡ Some x → slice_get xs (suc i) ≡ Some x → ⊥
-
--- nor does one of one element more, which is not the same as the one before it
-pub apart_more : (xs : List (ℕ × Pair)) (k : ℕ) (a b : ℕ × Pair) → 1 ≤ k → AreApart xs k → slice_get xs (k - 1) ≡ Some a → slice_get xs k ≡ Some b → same_test a b ≡ false → AreApart xs (k + 1)
-apart_more xs k a b low apart at bt other i x less ct dt = elim (cases_lt (suc i) k) as (λ _. ⊥) [
-  | inl before ↦ apart i x before ct dt
-  | inr not ↦ last (omega (arith, less, not))
-] where
-  last : suc i ≡ k → ⊥
-  last end =
-      let place : k - 1 ≡ i = omega (arith, end) in
-      let one : a ≡ x = same_some a x (sym at ∙ (ap (slice_get xs) place ∙ ct)) in
-      let two : b ≡ x = same_some b x (sym bt ∙ (ap (slice_get xs) (sym end) ∙ dt)) in
-      let same : same_test x x ≡ false = subst (λ z. same_test x z ≡ false) two (subst (λ z. same_test z b ≡ false) one other) in
-      false≢true (sym same ∙ test_itself x)
-
 -- the first that does is the least that stands twice
-pub first_is_least : (xs : List (ℕ × Pair)) (k : ℕ) (x : ℕ × Pair) → IsSorted by_shard xs → 1 ≤ k → AreApart xs k → slice_get xs (k - 1) ≡ Some x → slice_get xs k ≡ Some x
+pub first_is_least : (xs : List (ℕ × Pair)) (k : ℕ) (x : ℕ × Pair) → IsSorted by_shard xs → 1 ≤ k → AreApart (λ x. x) xs 1 k → slice_get xs (k - 1) ≡ Some x → slice_get xs k ≡ Some x
     → IsLeastTwice xs (Some x)
 first_is_least xs k x sorted low apart at next = (
   (k - 1, k, omega (arith, low), at, next),
@@ -92,13 +75,13 @@ first_is_least xs k x sorted low apart at next = (
 ) where
   not_below_first : (y : ℕ × Pair) → IsTwice xs y → IsAtMost x.0 x.1 y.0 y.1
   not_below_first y t = elim (cases_lt (suc t.0) k) as (λ _. IsAtMost x.0 x.1 y.0 y.1) [
-    | inl before ↦ absurd (apart t.0 y before t.3 (next_same xs t.0 t.1 y sorted t.2 t.3 t.4))
+    | inl before ↦ absurd (apart t.0 y y (omega arith) before t.3 (next_same xs t.0 t.1 y sorted t.2 t.3 t.4) refl)
     | inr not ↦ up_at xs (k - 1) t.0 x y sorted (omega (arith, not)) at t.3
   ]
 
 -- where none does, none stands twice
-pub none_twice : (xs : List (ℕ × Pair)) (k : ℕ) → IsSorted by_shard xs → AreApart xs k → length xs ≤ k → IsLeastTwice xs None
+pub none_twice : (xs : List (ℕ × Pair)) (k : ℕ) → IsSorted by_shard xs → AreApart (λ x. x) xs 1 k → length xs ≤ k → IsLeastTwice xs None
 none_twice xs k sorted apart end = λ x t.
     let next = next_same xs t.0 t.1 x sorted t.2 t.3 t.4 in
     let within : suc t.0 < length xs = slice_get_within xs (suc t.0) x next in
-    apart t.0 x (omega arith) t.3 next
+    apart t.0 x x (omega arith) (omega arith) t.3 next refl

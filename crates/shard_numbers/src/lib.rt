@@ -20,4 +20,4 @@ pub use renumbered::gaps::{Gap, Gaps};
 pub use renumbered::{Change, GapNumbers, numbers_of};
 pub use shortage::Shortage;
 pub use taken::{pair_twice, record_of, shard_of};
-pub use used_pairs::UsedPairs;
+pub use used_pairs::{ShownCalls, UsedPairs};

@@ -1,3 +1,5 @@
+ghost use Rattle.std.specs.Prelude.{◌<◌, All, IfOk, length};
+
 use crate::renumbered::free_numbers::{FreeNumbers, pair_after};
 use crate::renumbered::gaps::{Gap, Gaps};
 use crate::renumbered::names::Names;
@@ -88,14 +90,11 @@ impl GapNumbering<'_> {
         gaps: &'g Gaps,
         filled: &mut Vec<Filled<'g>>,
     ) -> Result<Option<ListedGap<'g>>, NoMemory> {
-        for end in &gaps_by_end(alloc, gaps)? {
-            let Some(gap) = gaps.list.get(end.gap) else {
-                continue;
-            };
-            let listed = ListedGap {
-                number: end.gap,
-                gap,
-            };
+        let ends = gaps_by_end(alloc, gaps)?;
+        for i in 0..ends.len() {
+            let number = ends[i].gap;
+            let gap = &gaps.list[number];
+            let listed = ListedGap { number, gap };
             let Some(pairs) = self.fill(alloc, gap)? else {
                 return Ok(Some(listed));
             };
@@ -115,7 +114,9 @@ struct GapEnd {
 }
 
 // Returns the upper ends of the gaps, by shard and then by pair.
-fn gaps_by_end(alloc: Global, gaps: &Gaps) -> Result<Vec<GapEnd>, NoMemory> {
+fn gaps_by_end(alloc: Global, gaps: &Gaps) -> Result<Vec<GapEnd>, NoMemory>
+    ensures { IfOk result (λ ends. All (λ e. e.gap < length gaps.now.list.items) ends.items) }
+{
     let mut ends = Vec::with_capacity(alloc, gaps.list.len())?;
     for gap in 0..gaps.list.len() {
         ends.push(GapEnd {

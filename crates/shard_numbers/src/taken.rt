@@ -3,7 +3,7 @@ ghost use Rattle.events.specs.Heard.{taken_by};
 ghost use Rattle.shard_numbers.specs.Taken.{IsLeastTwice, by_shard, pair_at, pairs_at, pairs_of_document, pairs_taken, shard_in};
 
 use doc_register::Reply;
-use events::{Front, Rec};
+use events::{Front, Rec, next_taken_again};
 use places::{DocWitness, Place};
 use std::alloc::Global;
 use version_pair::{DocId, NoMemory, Pair};
@@ -113,19 +113,14 @@ fn pairs_of(
     Ok(pairs)
 }
 
-// Returns the first pair that is next to an equal one: in a sorted list, the least pair that is in it twice.
-// Evidence and narrowing have a loop of their own: they look for the least two call numbers, and for the
-// earliest second reply, and a list that served all three would hold a call beside each pair.
+// Returns the first pair of a sorted list that is in it twice: the least.
 fn first_repeated(pairs: &[(u32, Pair)]) -> Option<(u32, Pair)>
     ensures { IsSorted by_shard pairs.now → IsLeastTwice pairs.now result }
 {
-    for k in 1..pairs.len() {
-        let pair = pairs[k];
-        if pairs[k - 1] == pair {
-            return Some(pair);
-        }
+    match next_taken_again(pairs, 1) {
+        Some(k) => Some(pairs[k]),
+        None => None,
     }
-    None
 }
 
 /// Returns the least pair that two calls of a shard take, by shard and then by pair, with the shard; `None` if

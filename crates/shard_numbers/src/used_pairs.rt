@@ -1,5 +1,4 @@
 use crate::taken::shard_of;
-use doc_check::DocAnswer;
 use events::{Front, Rec};
 use places::DocWitness;
 use std::alloc::Global;
@@ -12,6 +11,14 @@ pub struct UsedPairs {
     shards: Vec<Vec<Pair>>,
     // Whether two answered writes of a shard have one pair.
     has_twice: bool,
+}
+
+/// The calls of a document.
+#[derive(Clone, Copy)]
+pub struct ShownCalls<'a> {
+    /// The shard of the document, if it is known.
+    pub shard: Option<u32>,
+    pub records: &'a [Rec],
 }
 
 // Adds the pairs that a call shows to be in use: the one that its reply shows, and, if it was performed, that
@@ -29,20 +36,21 @@ fn note_used(list: &mut Vec<Pair>, found: Rec) -> Result<(), NoMemory> {
 }
 
 impl UsedPairs {
-    /// Returns the pairs that the calls of these documents show to be in use: a get found them, a write that
-    /// was performed has them, or its condition names them.
-    pub fn shown(
-        alloc: Global,
-        history: &Front<'_>,
-        answers: &[DocAnswer],
-    ) -> Result<UsedPairs, NoMemory> {
-        let mut used = UsedPairs {
+    // Returns no pairs.
+    fn none(alloc: Global) -> UsedPairs {
+        UsedPairs {
             shards: Vec::new(alloc),
             has_twice: false,
-        };
-        for answer in answers {
-            if let Some(list) = used.list(alloc, shard_of(history, answer.id()))? {
-                for found in answer.records() {
+        }
+    }
+
+    /// Returns the pairs that these calls show to be in use: a get found them, a write that was performed has
+    /// them, or its condition names them.
+    pub fn shown(alloc: Global, documents: &[ShownCalls<'_>]) -> Result<UsedPairs, NoMemory> {
+        let mut used = UsedPairs::none(alloc);
+        for document in documents {
+            if let Some(list) = used.list(alloc, document.shard)? {
+                for found in document.records {
                     note_used(list, *found)?;
                 }
             }
@@ -59,10 +67,7 @@ impl UsedPairs {
         witnesses: &[DocWitness],
         others: &[(u32, Pair)],
     ) -> Result<UsedPairs, NoMemory> {
-        let mut used = UsedPairs {
-            shards: Vec::new(alloc),
-            has_twice: false,
-        };
+        let mut used = UsedPairs::none(alloc);
         for witness in witnesses {
             if let Some(list) = used.list(alloc, shard_of(history, witness.id()))? {
                 for found in witness.records() {
@@ -72,7 +77,7 @@ impl UsedPairs {
                 }
             }
         }
-        used.note_twice();
+        used.has_twice = used.sort();
         for (shard, pair) in others {
             if let Some(list) = used.list(alloc, Some(*shard))? {
                 list.push(*pair)?;
@@ -97,27 +102,21 @@ impl UsedPairs {
         Ok(self.shards.get_mut(shard))
     }
 
-    // Notes whether a pair is in its list twice.
-    fn note_twice(&mut self) {
-        for list in &mut self.shards {
-            list.sort_unstable();
-            for i in 1..list.len() {
-                self.has_twice = self.has_twice || list[i] == list[i - 1];
-            }
-        }
-    }
-
     // Whether two answered writes of a shard have one pair, as far as these are given by witnesses.
     pub(crate) fn has_twice(&self) -> bool {
         self.has_twice
     }
 
-    // Sorts the lists. A pair that was added twice stays once.
-    fn sort(&mut self) {
+    // Sorts the lists. A pair that was added twice stays once. Returns whether there was one.
+    fn sort(&mut self) -> bool {
+        let mut has_twice = false;
         for list in &mut self.shards {
+            let added = list.len();
             list.sort_unstable();
             list.dedup();
+            has_twice = has_twice || list.len() < added;
         }
+        has_twice
     }
 
     /// Returns the pairs in use in a shard, rising.

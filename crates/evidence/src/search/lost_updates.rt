@@ -1,4 +1,4 @@
-ghost use Rattle.std.specs.Prelude.{IfOk, IfSome};
+ghost use Rattle.std.specs.Prelude.{◌<◌, All, IfOk, IfSome, length};
 ghost use Rattle.evidence.specs.Evidence.{IsOfCalls};
 
 use crate::holding::asks_too_little;
@@ -52,7 +52,9 @@ struct WriteAtPair {
 }
 
 // Each write at its pair, and again at the pair that it asks for, by document and pair.
-fn writes_by_pair(alloc: Global, writes: &[WriteWithPair]) -> Result<Vec<WriteAtPair>, NoMemory> {
+fn writes_by_pair(alloc: Global, writes: &[WriteWithPair]) -> Result<Vec<WriteAtPair>, NoMemory>
+    ensures { IfOk result (λ marks. All (λ m. m.write < length writes.now) marks.items) }
+{
     let mut marks = Vec::new(alloc);
     for i in 0..writes.len() {
         let own = WriteAtPair {
@@ -81,16 +83,15 @@ fn least_ignored(
 ) -> Result<Option<WriteWithPair>, NoMemory> {
     let mut asking: Option<Asking> = None;
     let mut least: Option<WriteWithPair> = None;
-    for mark in &writes_by_pair(alloc, writes)? {
-        let Some(write) = writes.get(mark.write) else {
-            return Ok(None);
-        };
-        if mark.asks {
-            asking = Some(Asking::with(asking, *write));
-        } else if asking.is_some_and(|asking| asking.are_after(*write)) {
+    let marks = writes_by_pair(alloc, writes)?;
+    for i in 0..marks.len() {
+        let write = writes[marks[i].write];
+        if marks[i].asks {
+            asking = Some(Asking::with(asking, write));
+        } else if asking.is_some_and(|asking| asking.are_after(write)) {
             least = match least {
                 Some(other) if other.no < write.no => Some(other),
-                _ => Some(*write),
+                _ => Some(write),
             };
         }
     }

@@ -3,6 +3,7 @@ ghost use Rattle.evidence.specs.Evidence.{IsOfCalls};
 
 use crate::refuted::Refuted;
 use crate::search::calls_with_pairs::WriteWithPair;
+use events::{TakenPair, next_taken_again};
 use std::alloc::Global;
 use version_pair::NoMemory;
 
@@ -23,16 +24,18 @@ pub fn least_pair_twice(
 {
     let mut taken = Vec::with_capacity(alloc, writes.len())?;
     for write in writes {
-        taken.push((write.performed.shard, write.performed.pair, write.no))?;
+        taken.push(TakenPair {
+            shard: write.performed.shard,
+            pair: write.performed.pair,
+            by: write.no,
+        })?;
     }
     taken.sort_unstable();
     let mut least = None;
-    for i in 1..taken.len() {
-        let (shard, pair, first) = taken[i - 1];
-        let (same_shard, same_pair, no) = taken[i];
-        if same_shard == shard && same_pair == pair {
-            least = Some(lesser((first, no), least));
-        }
+    let mut from = 1;
+    while let Some(again) = next_taken_again(&taken, from) {
+        least = Some(lesser((taken[again - 1].by, taken[again].by), least));
+        from = again + 1;
     }
     Ok(least.map(|(one, two)| Refuted::PairTwice(one, two)))
 }

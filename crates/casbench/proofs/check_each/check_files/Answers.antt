@@ -41,7 +41,7 @@ pub returns-clause-answered : goal.returns-clause-answered
 returns-clause-answered g c =
     let made = c.in_ok-texts in
     each_of_files _ g.I.Read.remaining c.args.input c.check_each.result made.texts.items (or_input (map (λ (f : Bor (List ℕ)). f.now) c.args.files.now))
-    c.args.options.ruling_out c.args.options.conflicts c.args.at_least c.args.form (g.W.Write.contents c.args.writer.now) (g.W.Write.contents c.check_each.new.writer)
+    c.args.task.options.ruling_out c.args.task.options.conflicts c.args.task.at_least c.args.form (g.W.Write.contents c.args.writer.now) (g.W.Write.contents c.check_each.new.writer)
     made.ensures.names made.ensures.input c.check_each.ensures.answered
 
 pub returns-clause-cut_off : goal.returns-clause-cut_off

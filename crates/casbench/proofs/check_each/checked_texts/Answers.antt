@@ -18,16 +18,16 @@ same_each ruling conflicts least form texts {outcome} {other} {lines} {again} on
 
 pub loop-place-init : goal.loop-place-init
 loop-place-init g c =
-    let options = c.args.options in (
-      subst (λ ls. AnswersEach options.ruling_out options.conflicts c.args.at_least c.args.form [] (Answered Yes) ls) (sym c.new-lines.ensures.items)
-          (nothing options.ruling_out options.conflicts c.args.at_least c.args.form),
+    let options = c.args.task.options in (
+      subst (λ ls. AnswersEach options.ruling_out options.conflicts c.args.task.at_least c.args.form [] (Answered Yes) ls) (sym c.new-lines.ensures.items)
+          (nothing options.ruling_out options.conflicts c.args.task.at_least c.args.form),
       c.check_all.ensures.all,
       c.check_all.ensures.checked,
     )
 
 pub loop-place-preserved : goal.loop-place-preserved
 loop-place-preserved g c =
-    let options = c.args.options in
+    let options = c.args.task.options in
     let old = c.args.texts.now in
     let i = c.loop-place.place in
     let text = c.index-texts-place.result in
@@ -39,9 +39,9 @@ loop-place-preserved g c =
     let written =
     subst (λ w. HasCome options.ruling_out options.conflicts c.args.form options.workers (slice_index_or old i text).name.now (g.S.Read.remaining (slice_index_or old i text).source) w) whole
     checked.come in (
-      same_each options.ruling_out options.conflicts c.args.at_least c.args.form (map (named_of g.S.Read.remaining) (take (i + 1) old)) (sym c.greater-outcome.ensures)
+      same_each options.ruling_out options.conflicts c.args.task.at_least c.args.form (map (named_of g.S.Read.remaining) (take (i + 1) old)) (sym c.greater-outcome.ensures)
           (sym (c.in_ok-extend_from_slice.ensures.items ∙ ap (λ ls. c.loop-place.lines.items ++ ls) c.deref.ensures.value))
-          (one_more_written g.S.Read.remaining options.ruling_out options.conflicts c.args.at_least c.args.form old i text it c.outcome_of-next.result within c.loop-place.invariant.0 written
+          (one_more_written g.S.Read.remaining options.ruling_out options.conflicts c.args.task.at_least c.args.form old i text it c.outcome_of-next.result within c.loop-place.invariant.0 written
           c.outcome_of-next.ensures.status c.outcome_of-next.ensures.judged),
       c.loop-place.invariant.1,
       c.loop-place.invariant.2,

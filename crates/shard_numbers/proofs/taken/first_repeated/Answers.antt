@@ -1,23 +1,17 @@
-use Rattle.std.proofs.Common.{arith, refl, sym, ap, ◌∙◌, ◌-◌, Some}
+use Rattle.std.proofs.Common.{arith, refl, sym, ap, ◌∙◌, Some, length}
 use Rattle.std.proofs.lemmas.Option.{slice_get_read}
-use Rattle.shard_numbers.proofs.TwiceMoved.{same_from_test}
-use Rattle.shard_numbers.proofs.TwiceSorted.{apart_more, first_is_least, none_twice}
+use Rattle.version_pair.proofs.ListLemmas.{same_some}
+use Rattle.shard_numbers.proofs.TwiceSorted.{first_is_least, none_twice}
 use Rattle.shard_numbers.proofs.taken.first_repeated.Goals as goal
 
-pub returns-then-eq : goal.returns-then-eq
-returns-then-eq c = λ sorted.
+pub returns-in-Some : goal.returns-in-Some
+returns-in-Some c = λ sorted.
     let xs = c.args.pairs.now in
-    let here = slice_get_read xs _ c.loop-k.k c.index-pairs-k.result refl c.loop-k-test.true c.index-pairs-k.is in
-    let before = slice_get_read xs _ (c.loop-k.k - 1) c.index-pairs-k-in-loop-k.result refl (omega (arith, c.loop-k-test.true)) c.index-pairs-k-in-loop-k.is in
-    let same = same_from_test c.index-pairs-k-in-loop-k.result c.index-pairs-k.result (sym c.eq.ensures ∙ c.if-eq.true) in
-    first_is_least xs c.loop-k.k c.index-pairs-k.result sorted c.loop-k.auto.k c.loop-k.invariant (before ∙ ap (λ z. Some z) same) here
+    let x = c.index-pairs-k.result in
+    let again = c.in-Some.ensures.again in
+    let here = slice_get_read xs _ c.in-Some.k x refl again.1 c.index-pairs-k.is in
+    let same = again.2.4 ∙ same_some again.2.1 x (sym again.2.3 ∙ here) in
+    first_is_least xs c.in-Some.k x sorted again.0 c.in-Some.ensures.first (again.2.2 ∙ ap (λ z. Some z) same) here
 
-pub loop-k-preserved : goal.loop-k-preserved
-loop-k-preserved c =
-    let xs = c.args.pairs.now in
-    let here = slice_get_read xs _ c.loop-k.k c.index-pairs-k.result refl c.loop-k-test.true c.index-pairs-k.is in
-    let before = slice_get_read xs _ (c.loop-k.k - 1) c.index-pairs-k-in-loop-k.result refl (omega (arith, c.loop-k-test.true)) c.index-pairs-k-in-loop-k.is in
-    apart_more xs c.loop-k.k c.index-pairs-k-in-loop-k.result c.index-pairs-k.result c.loop-k.auto.k c.loop-k.invariant before here (sym c.eq.ensures ∙ c.if-eq.false)
-
-pub returns : goal.returns
-returns c = λ sorted. none_twice c.args.pairs.now c.loop-k.k sorted c.loop-k.invariant c.loop-k-test.false
+pub returns-in-None : goal.returns-in-None
+returns-in-None c = λ sorted. none_twice c.args.pairs.now (length c.args.pairs.now) sorted c.in-None.ensures.first (omega arith)

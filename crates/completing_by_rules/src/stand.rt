@@ -1,0 +1,234 @@
+use crate::plan::{RoundPlan, Stretch};
+use completing::{ChainWrite, PerRecord, find, find_near};
+use doc_register::{Op, Reply};
+use events::Rec;
+use std::alloc::Global;
+use version_pair::{NoMemory, Pair};
+use write_chain::sort_nearly_ordered;
+
+// The number of calls, of those that were met last, that are examined before all of them are searched.
+const NEAR: usize = 16;
+
+// A stretch that bounds others, with the index of the call or the reply from which on it does.
+#[derive(Clone, Copy, PartialEq, Eq, PartialOrd, Ord)]
+struct Bound {
+    at: usize,
+    stretch: usize,
+}
+
+/// The stretches of the records of a round.
+#[derive(Drop)]
+pub struct Stand {
+    // For each record in the chain, the stretch that it begins, from 1 on.
+    begun: PerRecord<Option<usize>>,
+    // For each record outside the chain, its stretch.
+    given: PerRecord<Option<usize>>,
+    // The stretches of the known pairs, by pair.
+    known: Vec<(Pair, usize)>,
+    // For each stretch, the latest ones up to it.
+    latest: Vec<Latest>,
+    // For each reply of a write of the chain or of a get that found a pair, from the first to the last, the
+    // greatest stretch of those up to it; without those after the last call that was asked for.
+    floors: Vec<Bound>,
+    // For each call that was met and lowered it, from the last to the first, the greatest stretch for what
+    // was answered before those up to it.
+    bounds: Vec<Bound>,
+}
+
+// The latest stretch up to one in which the document does not exist, and in which it does.
+#[derive(Clone, Copy)]
+struct Latest {
+    absent: Option<usize>,
+    present: Option<usize>,
+}
+
+// For each stretch, the latest ones up to it.
+fn latest_stretches(alloc: Global, stretches: &[Stretch]) -> Result<Vec<Latest>, NoMemory> {
+    let mut table = Vec::with_capacity(alloc, stretches.len())?;
+    let mut latest = Latest {
+        absent: None,
+        present: None,
+    };
+    for stretch in 0..stretches.len() {
+        if stretches[stretch].live {
+            latest.present = Some(stretch);
+        } else {
+            latest.absent = Some(stretch);
+        }
+        table.push(latest)?;
+    }
+    Ok(table)
+}
+
+// The pair that a get found.
+fn pair_found(reply: Reply) -> Option<Pair> {
+    match reply {
+        Reply::Found { pair, .. } => Some(pair),
+        _ => None,
+    }
+}
+
+impl Stand {
+    /// Returns the stretches of the writes of the chain, and of no others yet.
+    pub fn of(alloc: Global, records: &[Rec], plan: &RoundPlan) -> Result<Stand, NoMemory> {
+        let mut stand = Stand {
+            begun: PerRecord::new(alloc, records, None)?,
+            given: PerRecord::new(alloc, records, None)?,
+            known: Vec::with_capacity(alloc, plan.writes.len())?,
+            latest: latest_stretches(alloc, &plan.stretches)?,
+            floors: Vec::with_capacity(alloc, records.len())?,
+            bounds: Vec::new(alloc),
+        };
+        stand.note_writes(&plan.writes)?;
+        stand.note_floors(records)?;
+        Ok(stand)
+    }
+
+    // Sets the stretches that the writes begin.
+    fn note_writes(&mut self, writes: &[ChainWrite]) -> Result<(), NoMemory> {
+        for j in 0..writes.len() {
+            let stretch = j + 1;
+            self.begun.set(writes[j].rec, Some(stretch));
+            if let Some(pair) = writes[j].pair {
+                self.known.push((pair, stretch))?;
+            }
+        }
+        Ok(())
+    }
+
+    // Sets the stretches of the gets that found a pair, and the greatest stretch up to each reply.
+    fn note_floors(&mut self, records: &[Rec]) -> Result<(), NoMemory> {
+        let mut near = 0;
+        for rec in 0..records.len() {
+            let Some(heard) = records[rec].heard else {
+                continue;
+            };
+            let mut stretch = self.begun.of(rec);
+            if let Some(pair) = pair_found(heard.1) {
+                stretch = find_near(&self.known, pair, &mut near).map(|known| known.1);
+                self.given.set(rec, stretch);
+            }
+            if let Some(stretch) = stretch {
+                self.floors.push(Bound {
+                    at: heard.0,
+                    stretch,
+                })?;
+            }
+        }
+        sort_nearly_ordered(&mut self.floors);
+        let mut floor = 0;
+        for entry in &mut self.floors {
+            floor = floor.max(entry.stretch);
+            entry.stretch = floor;
+        }
+        Ok(())
+    }
+
+    /// Returns the stretch that begins with the write of this pair.
+    pub fn of_pair(&self, pair: Pair) -> Option<usize> {
+        Some(find(&self.known, pair)?.1)
+    }
+
+    /// Returns the stretch that ends with the record, if it is a write of the chain.
+    pub fn before_write(&self, rec: usize) -> Option<usize> {
+        self.begun.of(rec)?.checked_sub(1)
+    }
+
+    /// Returns the stretch of the record, if it is a get that found a pair or was given one.
+    pub fn of_read(&self, rec: usize) -> Option<usize> {
+        self.given.of(rec)
+    }
+
+    // The least stretch for a call there: the greatest one of what was answered before. Calls must be asked
+    // for from the last to the first.
+    fn floor(&mut self, call_at: usize) -> usize {
+        for _ in 0..self.floors.len() {
+            match self.floors.last() {
+                Some(entry) if entry.at < call_at => return entry.stretch,
+                _ => self.floors.pop(),
+            };
+        }
+        0
+    }
+
+    // The greatest stretch for a reply there, if one of the last few calls that were noted comes after it.
+    fn near_bound(&self, reply_at: usize) -> Option<usize> {
+        let met = self.bounds.len();
+        for back in 0..met.min(NEAR) {
+            let bound = self.bounds[met - 1 - back];
+            if bound.at > reply_at {
+                return Some(bound.stretch);
+            }
+        }
+        None
+    }
+
+    /// Returns the greatest stretch for a reply there, by the calls that were made after it; `last` if there
+    /// is none.
+    pub fn bound(&self, reply_at: usize, last: usize) -> usize {
+        if let Some(bound) = self.near_bound(reply_at) {
+            return bound;
+        }
+        let met = self.bounds.partition_point(|entry| entry.at > reply_at);
+        match self.bounds[..met].last() {
+            Some(latest) => latest.stretch,
+            None => last,
+        }
+    }
+
+    /// Notes that what was answered before this call stands at the stretch or earlier. Calls must come from
+    /// the last to the first.
+    pub fn meet(&mut self, call_at: usize, stretch: usize) -> Result<(), NoMemory> {
+        let is_lower = match self.bounds.last() {
+            Some(entry) => stretch < entry.stretch,
+            None => true,
+        };
+        if is_lower {
+            self.bounds.push(Bound {
+                at: call_at,
+                stretch,
+            })?;
+        }
+        Ok(())
+    }
+
+    /// Gives the record outside the chain its stretch.
+    pub fn give(&mut self, rec: usize, stretch: usize) {
+        self.given.set(rec, Some(stretch));
+    }
+
+    /// Returns the stretch of each record outside the chain.
+    pub fn into_given(self) -> PerRecord<Option<usize>> {
+        self.given
+    }
+
+    // The latest stretch up to the bound in which the state allows a missing or a conflict.
+    fn latest_allowed(&self, plan: &RoundPlan, found: Rec, bound: usize) -> Option<usize> {
+        match found.op {
+            Op::Get => self.latest.get(bound)?.absent,
+            Op::Create { .. } => self.latest.get(bound)?.present,
+            Op::Index { .. } | Op::Delete { .. } => {
+                let pair = found.op.condition()?;
+                if plan.stretch(bound).pair == Some(pair) {
+                    bound.checked_sub(1)
+                } else {
+                    Some(bound)
+                }
+            }
+        }
+    }
+
+    /// Returns the latest stretch of an answered record outside the chain that has none yet: up to the bound
+    /// and not too early, if there is one.
+    pub fn latest(&mut self, plan: &RoundPlan, found: Rec, bound: usize) -> Option<usize> {
+        if let Some((_, Reply::Found { .. })) = found.heard {
+            return None;
+        }
+        let latest = self.latest_allowed(plan, found, bound)?;
+        if latest < self.floor(found.call_at) {
+            None
+        } else {
+            Some(latest)
+        }
+    }
+}

@@ -1,0 +1,494 @@
+use crate::inserted_pair::NamedPair;
+use crate::known::KnownPair;
+use crate::state::Document;
+use crate::wait_kind::WaitKind;
+use crate::walk::{ForwardWalk, Placed};
+use completing::{Timed, earlier, leaves_it, needs};
+use doc_register::Conflicts;
+use events::Rec;
+use version_pair::Pair;
+
+/// What is tried next at a point of the search.
+#[derive(Clone, Copy)]
+pub enum NextTry {
+    /// The writes that the next known pair can have, after those up to this index if one is given.
+    Next(Option<usize>),
+    /// An unanswered delete.
+    Delete,
+    /// An unanswered write of the document.
+    Index,
+    /// The conflicts, as performed writes, after those with a reply up to this index if one is given.
+    Conflict(Option<usize>),
+    /// The conflicts that were placed as refused, as performed writes. The ones placed last, this many, are
+    /// left out.
+    Turned(usize),
+    /// An unanswered write of the document that takes a pair which a delete asks for, from an index among the
+    /// named pairs on.
+    Asked(usize),
+    /// The same with a conflict as the performed write.
+    AskedRefused(usize),
+    /// Nothing.
+    Done,
+}
+
+// A record that is tried, and up to which index all were when it was: that of its call or reply.
+#[derive(Clone, Copy)]
+struct Tried {
+    rec: usize,
+    last: usize,
+}
+
+// The number of conflicts of a kind that are examined.
+const MOST_WAITING: usize = 64;
+
+// Whether the state of the document before the write is what the write needs.
+fn fits(walk: &ForwardWalk, found: Rec) -> bool {
+    let document = walk.state.document;
+    let needed = needs(found);
+    if needed.is_some() && needed != Some(document.is_live()) {
+        return false;
+    }
+    match found.op.condition() {
+        Some(pair) => match document {
+            Document::Known(at) => match walk.known.entry(at) {
+                Some(present) => present.pair == pair,
+                None => false,
+            },
+            Document::Invented(Some(at)) => walk.known.named_place(pair) == Some(at),
+            Document::Invented(None) | Document::Absent => false,
+        },
+        None => true,
+    }
+}
+
+// The write with the next known pair, if it may be placed and fits.
+fn fitting(walk: &ForwardWalk, rec: usize) -> Option<usize> {
+    let found = walk.record(rec)?;
+    if walk.may_be_placed(rec) && fits(walk, found) {
+        Some(rec)
+    } else {
+        None
+    }
+}
+
+// The first of the writes of the number, called after an index if one is given, that may have the next known
+// pair.
+fn first_of_number(walk: &ForwardWalk, number: u64, last: Option<usize>) -> Option<Tried> {
+    for entry in walk.numbers.waiting(number, last).iter().take(MOST_WAITING) {
+        if fitting(walk, entry.rec).is_some() {
+            return Some(Tried {
+                rec: entry.rec,
+                last: entry.at,
+            });
+        }
+    }
+    None
+}
+
+// The kind of the unanswered deletes under the condition of the present pair.
+fn delete_on_present(document: Document) -> Option<WaitKind> {
+    match document {
+        Document::Known(at) => Some(WaitKind::LostDeleteOn(at)),
+        Document::Invented(Some(at)) => Some(WaitKind::LostDeleteOnNamed(at)),
+        Document::Invented(None) | Document::Absent => None,
+    }
+}
+
+// The kind of the unanswered indexes under the condition of the present pair.
+fn index_on_present(document: Document) -> Option<WaitKind> {
+    match document {
+        Document::Known(at) => Some(WaitKind::LostIndexOn(at)),
+        Document::Invented(Some(at)) => Some(WaitKind::LostIndexOnNamed(at)),
+        Document::Invented(None) | Document::Absent => None,
+    }
+}
+
+// The kind of the conflicts under the condition of the present pair.
+fn conflict_on_present(document: Document) -> Option<WaitKind> {
+    match document {
+        Document::Known(at) => Some(WaitKind::ConflictOn(at)),
+        Document::Invented(Some(at)) => Some(WaitKind::ConflictOnNamed(at)),
+        Document::Invented(None) | Document::Absent => None,
+    }
+}
+
+// The unanswered delete that would be performed, one under the condition of the present pair first.
+fn lost_delete(walk: &mut ForwardWalk) -> Option<usize> {
+    if let Some(kind) = delete_on_present(walk.state.document) {
+        if let Some(rec) = walk.first(kind) {
+            return Some(rec);
+        }
+    }
+    walk.first(WaitKind::LostDelete)
+}
+
+// The unanswered write of the document that would be performed, one under the condition of the present pair
+// first.
+fn lost_index(walk: &mut ForwardWalk) -> Option<usize> {
+    if let Some(kind) = index_on_present(walk.state.document) {
+        if let Some(rec) = walk.first(kind) {
+            return Some(rec);
+        }
+    }
+    if !walk.state.document.is_live() {
+        if let Some(rec) = walk.first(WaitKind::LostCreate) {
+            return Some(rec);
+        }
+    }
+    walk.first(WaitKind::LostIndex)
+}
+
+// The first, in response order, of the conflicts of a kind that may be placed, with a reply after an index if
+// one is given.
+fn first_conflict(
+    walk: &ForwardWalk,
+    kind: WaitKind,
+    last: Option<usize>,
+    deletes: bool,
+) -> Option<Timed> {
+    let mut first: Option<Timed> = None;
+    for waiting in walk.waiting(kind).iter().take(MOST_WAITING) {
+        if let Some(reply_at) = performable(walk, waiting.rec, last, deletes) {
+            let is_first = match first {
+                Some(entry) => reply_at < entry.at,
+                None => true,
+            };
+            if is_first {
+                first = Some(Timed {
+                    at: reply_at,
+                    rec: waiting.rec,
+                });
+            }
+        }
+    }
+    first
+}
+
+// The index of the reply of a conflict that may be placed.
+fn performable(
+    walk: &ForwardWalk,
+    rec: usize,
+    last: Option<usize>,
+    deletes: bool,
+) -> Option<usize> {
+    let found = walk.record(rec)?;
+    let (reply_at, _) = found.heard?;
+    let is_kind = deletes || leaves_it(found.op);
+    if last < Some(reply_at) && is_kind && walk.may_be_placed(rec) {
+        Some(reply_at)
+    } else {
+        None
+    }
+}
+
+// The first, in response order, of the conflicts that would be performed, with a reply after an index if one
+// is given.
+fn conflict(walk: &mut ForwardWalk, last: Option<usize>, deletes: bool) -> Option<Timed> {
+    if walk.conflicts == Conflicts::Plain {
+        return None;
+    }
+    let free = first_conflict(walk, WaitKind::FreeConflict, last, deletes);
+    let other = match walk.state.document {
+        Document::Absent => first_conflict(walk, WaitKind::CreateConflict, last, deletes),
+        present => match conflict_on_present(present) {
+            Some(kind) => first_conflict(walk, kind, last, deletes),
+            None => None,
+        },
+    };
+    earlier(free, other)
+}
+
+// The writes that can have the next known pair, if only a condition names it: one unanswered write, then the
+// conflicts. (No reply has the index 0.)
+fn write_of_any_number(walk: &mut ForwardWalk, last: Option<usize>) -> Option<Tried> {
+    if last.is_none() {
+        if let Some(rec) = lost_index(walk) {
+            return Some(Tried { rec, last: 0 });
+        }
+    }
+    let refused = conflict(walk, last, false)?;
+    Some(Tried {
+        rec: refused.rec,
+        last: refused.at,
+    })
+}
+
+// The next write that can have the known pair, which is the next one, after those up to an index if one is
+// given.
+fn next_writer_of(walk: &mut ForwardWalk, entry: KnownPair, last: Option<usize>) -> Option<Tried> {
+    match (entry.writer, entry.number) {
+        (Some(rec), _) if last.is_none() => Some(Tried {
+            rec: fitting(walk, rec)?,
+            last: 0,
+        }),
+        (Some(_), _) => None,
+        (None, Some(number)) => {
+            let _ = walk.numbers.first(number, &walk.placed);
+            first_of_number(walk, number, last)
+        }
+        (None, None) => write_of_any_number(walk, last),
+    }
+}
+
+// The next write with the next known pair to try, after those up to an index if one is given; and what is
+// tried after it.
+fn next_known(walk: &mut ForwardWalk, last: Option<usize>) -> Option<(Placed, NextTry)> {
+    if !walk.state.has_inserted() {
+        return None;
+    }
+    let entry = walk.next_known()?;
+    let tried = next_writer_of(walk, entry, last)?;
+    let write = Placed::Known {
+        rec: tried.rec,
+        at: walk.state.passed,
+        pair: entry.pair,
+    };
+    Some((write, NextTry::Next(Some(tried.last))))
+}
+
+// The write that has the next known pair, or is the only one of its number.
+fn next_writer(walk: &ForwardWalk) -> Option<Rec> {
+    let entry = walk.next_known()?;
+    let rec = match entry.writer {
+        Some(rec) => rec,
+        None => walk.numbers.only(entry.number?)?,
+    };
+    walk.record(rec)
+}
+
+// The last conflict that was placed as refused and can be a write here, without the last `from` placed
+// records; and what is tried after it.
+fn last_turned(walk: &ForwardWalk, from: usize) -> Option<(Placed, NextTry)> {
+    let order = walk.order.as_slice();
+    for back in from..MOST_WAITING.min(order.len()) {
+        let placed = order[order.len() - 1 - back];
+        match placed {
+            Placed::Read(rec) if walk.may_turn(rec) => {
+                return Some((Placed::Turned(rec, None), NextTry::Turned(back + 1)));
+            }
+            _ => {}
+        }
+    }
+    None
+}
+
+// Whether the next write needs the document to exist, or not to exist, and the opposite is the case.
+fn next_misses(walk: &ForwardWalk) -> bool {
+    match next_writer(walk) {
+        Some(found) => match needs(found) {
+            Some(live) => live != walk.state.document.is_live(),
+            None => false,
+        },
+        None => false,
+    }
+}
+
+// Whether an inserted delete is of any use, or an inserted write of the document.
+fn serves(walk: &mut ForwardWalk, delete: bool) -> bool {
+    let document = walk.state.document;
+    if let Some(kind) = conflict_on_present(document) {
+        if walk.first(kind).is_some() {
+            return true;
+        }
+    }
+    if delete != document.is_live() {
+        return false;
+    }
+    let waiting = if delete {
+        WaitKind::Missing
+    } else {
+        WaitKind::CreateConflict
+    };
+    walk.first(waiting).is_some() || next_misses(walk) || (delete && next_may_create(walk))
+}
+
+// Whether an unanswered create, which needs the document to be absent, can have the next known pair.
+fn next_may_create(walk: &mut ForwardWalk) -> bool {
+    match walk.next_known() {
+        Some(
+            KnownPair {
+                writer: None,
+                number: Some(number),
+                ..
+            },
+        ) => {
+            let _ = walk.numbers.first(number, &walk.placed);
+            has_create(walk, number)
+        }
+        Some(
+            KnownPair {
+                writer: None,
+                number: None,
+                ..
+            },
+        ) => walk.first(WaitKind::LostCreate).is_some(),
+        _ => false,
+    }
+}
+
+// Whether a create of the number may be placed.
+fn has_create(walk: &ForwardWalk, number: u64) -> bool {
+    for waiting in walk.numbers.waiting(number, None).iter().take(MOST_WAITING) {
+        if let Some(found) = walk.record(waiting.rec) {
+            if needs(found) == Some(false) && walk.may_be_placed(waiting.rec) {
+                return true;
+            }
+        }
+    }
+    false
+}
+
+// Whether a write may be inserted before the next known pair: there is a number for it, and the next write
+// does not ask for exactly the pair that is present.
+fn may_insert(walk: &ForwardWalk) -> bool {
+    if walk.room() == 0 || walk.state.budget_left() == 0 {
+        return false;
+    }
+    match next_writer(walk) {
+        Some(found) => found.op.condition().is_none(),
+        None => true,
+    }
+}
+
+// An unanswered write to insert, a delete or a write of the document.
+fn write_to_insert(walk: &mut ForwardWalk, delete: bool) -> Option<usize> {
+    if !may_insert(walk) || !serves(walk, delete) {
+        return None;
+    }
+    if delete {
+        lost_delete(walk)
+    } else {
+        lost_index(walk)
+    }
+}
+
+// A conflict that was placed as refused, to be performed here, and what is tried after it.
+fn turn_back(walk: &mut ForwardWalk, from: usize) -> Option<(Placed, NextTry)> {
+    let is_live = walk.state.document.is_live();
+    if walk.conflicts == Conflicts::Maybe && may_insert(walk) && serves(walk, is_live) {
+        last_turned(walk, from)
+    } else {
+        None
+    }
+}
+
+// Whether a delete whose reply is a conflict under the condition of the named pair may have been performed
+// there or later.
+fn has_refused_delete(walk: &ForwardWalk, at: usize) -> bool {
+    if walk.conflicts == Conflicts::Plain {
+        return false;
+    }
+    let conflicts = walk.all(WaitKind::ConflictOnNamed(at));
+    for waiting in conflicts.iter().take(MOST_WAITING) {
+        let rec = waiting.rec;
+        if walk.is_delete(rec) && (!walk.placed.of(rec) || walk.can_stand(rec)) {
+            return true;
+        }
+    }
+    false
+}
+
+// Whether a delete under the condition of the named pair may be performed there or later: an unanswered one,
+// or under Maybe one whose reply is a conflict.
+fn has_delete(walk: &mut ForwardWalk, at: usize) -> bool {
+    walk.is_left(WaitKind::LostDeleteOnNamed(at)) || has_refused_delete(walk, at)
+}
+
+// The named pair that a write of the document may take so that a delete which asks for it can be performed
+// after it, from an index among these pairs on.
+fn pair_for_delete(walk: &mut ForwardWalk, from: usize) -> Option<NamedPair> {
+    let is_asked = walk.state.document.is_live()
+        && may_insert(walk)
+        && walk.state.budget_left() > 1
+        && serves(walk, true);
+    if !is_asked {
+        return None;
+    }
+    let mut place = from;
+    for _ in 0..MOST_WAITING {
+        let named = walk.named_pair(place)?;
+        if has_delete(walk, named.at) {
+            return Some(named);
+        }
+        place = named.next;
+    }
+    None
+}
+
+// An unanswered write of the document, or one whose reply is a conflict, that takes a pair which a delete
+// asks for; and the index of the next named pair.
+fn asked(walk: &mut ForwardWalk, from: usize, is_refused: bool) -> Option<(Placed, usize)> {
+    let named = pair_for_delete(walk, from)?;
+    let rec = if is_refused {
+        conflict(walk, None, false)?.rec
+    } else {
+        lost_index(walk)?
+    };
+    Some((Placed::Inserted(rec, Some(named.pair)), named.next))
+}
+
+// The record as an inserted write, whose pair isn't chosen yet.
+fn inserted(rec: Option<usize>) -> Option<Placed> {
+    Some(Placed::Inserted(rec?, None))
+}
+
+// What is tried next, if it is a write; and what is tried after it.
+fn write_at_turn(walk: &mut ForwardWalk, turn: NextTry) -> (Option<Placed>, NextTry) {
+    match turn {
+        NextTry::Next(last) => match next_known(walk, last) {
+            Some((write, next)) => (Some(write), next),
+            None => (None, NextTry::Delete),
+        },
+        NextTry::Delete => (inserted(write_to_insert(walk, true)), NextTry::Index),
+        NextTry::Index => (
+            inserted(write_to_insert(walk, false)),
+            NextTry::Conflict(None),
+        ),
+        NextTry::Conflict(last) => match conflict(walk, last, true) {
+            Some(refused) if may_insert(walk) => (
+                inserted(Some(refused.rec)),
+                NextTry::Conflict(Some(refused.at)),
+            ),
+            _ => (None, NextTry::Turned(0)),
+        },
+        NextTry::Turned(from) => match turn_back(walk, from) {
+            Some((write, next)) => (Some(write), next),
+            None => (None, NextTry::Asked(0)),
+        },
+        NextTry::Asked(from) => match asked(walk, from, false) {
+            Some((write, next)) => (Some(write), NextTry::Asked(next)),
+            None => (None, NextTry::AskedRefused(0)),
+        },
+        NextTry::AskedRefused(from) => match asked(walk, from, true) {
+            Some((write, next)) => (Some(write), NextTry::AskedRefused(next)),
+            None => (None, NextTry::Done),
+        },
+        NextTry::Done => (None, NextTry::Done),
+    }
+}
+
+/// Returns the next write to try at a point, if one is left, and advances the turn.
+pub fn next_write(walk: &mut ForwardWalk, turn: &mut NextTry) -> Option<Placed> {
+    for _ in 0..7 {
+        let (write, next) = write_at_turn(walk, *turn);
+        *turn = next;
+        if write.is_some() {
+            return write;
+        }
+    }
+    None
+}
+
+/// Returns whether the point cannot lead anywhere: a get found the present pair and can't be placed, or the
+/// next write is under the condition of a pair that is gone.
+pub fn is_dead_end(walk: &mut ForwardWalk) -> bool {
+    if let Document::Known(at) = walk.state.document {
+        if walk.is_left(WaitKind::Found(at)) {
+            return true;
+        }
+    }
+    match next_writer(walk) {
+        Some(found) => found.op.condition().is_some() && !fits(walk, found),
+        None => false,
+    }
+}
