@@ -6,7 +6,7 @@ use std::alloc::Global;
 /// What the commands run with.
 #[derive(Drop)]
 pub struct Host<'a, R, T> {
-    /// Opens files, writes to standard error and tells the time.
+    /// Opens files, writes to standard error and reads the clock.
     pub rt: &'a R,
     /// What workers run on.
     pub threads: &'a T,

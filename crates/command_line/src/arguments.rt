@@ -1,7 +1,16 @@
 use crate::argument::{Argument, Takes};
 
-// The greatest number that a run's arguments may have; which of them are refused is said later.
-const GREATEST_OF_A_RUN: u64 = 4_294_967_295;
+// A number that may be left out.
+const ANY_NUMBER: Takes = Takes::Number {
+    least: 0,
+    most: u64::MAX,
+};
+
+// A number of a run. Which of them are refused is said later.
+const OF_A_RUN: Takes = Takes::NeededNumber {
+    least: 0,
+    most: 4_294_967_295,
+};
 
 /// The history text, which may be left out.
 pub const HISTORY: Argument<'static> = Argument {
@@ -56,10 +65,7 @@ pub const FIRST: Argument<'static> = Argument {
     id: "first",
     shown: "N",
     help: "The number of the first call; 0 by default",
-    takes: Takes::Number {
-        least: 0,
-        most: u64::MAX,
-    },
+    takes: ANY_NUMBER,
 };
 
 /// How a conflict is read.
@@ -91,10 +97,7 @@ pub const AT_LEAST: Argument<'static> = Argument {
     id: "at-least",
     shown: "CALLS",
     help: "How many calls a history has to have: a yes with fewer gets status 6; 0 by default",
-    takes: Takes::Number {
-        least: 0,
-        most: u64::MAX,
-    },
+    takes: ANY_NUMBER,
 };
 
 /// Whether answers are written as objects of JSON.
@@ -134,10 +137,7 @@ pub const SEED: Argument<'static> = Argument {
     id: "seed",
     shown: "S",
     help: "The seed from which the plan of the clients, the steps of the group and its disturbances are drawn",
-    takes: Takes::Number {
-        least: 0,
-        most: u64::MAX,
-    },
+    takes: ANY_NUMBER,
 };
 
 /// The number of clients of a run.
@@ -145,10 +145,7 @@ pub const CLIENTS: Argument<'static> = Argument {
     id: "clients",
     shown: "A",
     help: "How many clients there are, 1 to 8",
-    takes: Takes::NeededNumber {
-        least: 0,
-        most: GREATEST_OF_A_RUN,
-    },
+    takes: OF_A_RUN,
 };
 
 /// The number of calls that each of them makes.
@@ -156,10 +153,7 @@ pub const CALLS: Argument<'static> = Argument {
     id: "calls",
     shown: "B",
     help: "How many calls each client makes; 524,288 at most in all",
-    takes: Takes::NeededNumber {
-        least: 0,
-        most: GREATEST_OF_A_RUN,
-    },
+    takes: OF_A_RUN,
 };
 
 /// The number of documents.
@@ -167,10 +161,7 @@ pub const DOCS: Argument<'static> = Argument {
     id: "docs",
     shown: "D",
     help: "How many documents there are, 1 to 1,024",
-    takes: Takes::NeededNumber {
-        least: 0,
-        most: GREATEST_OF_A_RUN,
-    },
+    takes: OF_A_RUN,
 };
 
 /// The number of copies of the group.
@@ -178,10 +169,7 @@ pub const COPIES: Argument<'static> = Argument {
     id: "copies",
     shown: "E",
     help: "How many copies the group has, 1 to 5",
-    takes: Takes::NeededNumber {
-        least: 0,
-        most: GREATEST_OF_A_RUN,
-    },
+    takes: OF_A_RUN,
 };
 
 /// What the group does wrong.

@@ -1,23 +1,24 @@
-use crate::per_record::PerRecord;
+use crate::count::{Count, No};
+use crate::table::Table;
 use doc_register::{Op, Reply};
 use events::Rec;
 use version_pair::Pair;
 
 /// A write of a chain.
-#[derive(Clone, Copy)]
-pub struct ChainWrite {
+#[derive_where(Clone, Copy)]
+pub struct ChainWrite<D: Count> {
     /// Its pair; `None` for one that is invented at the end.
     pub pair: Option<Pair>,
     /// Its record.
-    pub rec: usize,
+    pub rec: No<D>,
 }
 
 /// Writes in their order, and for each answered record that is not one of them its stretch: how many of them
 /// come before it.
 #[derive(Drop)]
-pub struct Chain {
-    pub writes: Vec<ChainWrite>,
-    pub stretches: PerRecord<Option<usize>>,
+pub struct Chain<D: Count> {
+    pub writes: Vec<ChainWrite<D>>,
+    pub stretches: Table<D, Option<usize>>,
 }
 
 /// Returns whether the document exists after the operation.

@@ -8,7 +8,7 @@ pub trait HasPair {
     fn pair(&self) -> Pair;
 }
 
-impl HasPair for (Pair, usize) {
+impl<T> HasPair for (Pair, T) {
     fn pair(&self) -> Pair {
         self.0
     }

@@ -1,5 +1,7 @@
 use crate::chain_write::{Chain, ChainWrite};
-use crate::per_record::{PerRecord, record};
+use crate::count::{Count, No};
+use crate::records::Records;
+use crate::table::Table;
 use events::{Rec, Seen};
 use places::Place;
 use std::alloc::Global;
@@ -11,11 +13,11 @@ use write_chain::sort_nearly_ordered;
 const APART: u64 = 1_048_576;
 
 // An answered record outside the chain. They are in the order by stretch, then in response order.
-#[derive(Clone, Copy, PartialEq, Eq, PartialOrd, Ord)]
-struct Outside {
+#[derive_where(Clone, Copy, PartialEq, Eq, PartialOrd, Ord)]
+struct Outside<D: Count> {
     stretch: usize,
     reply_at: usize,
-    rec: usize,
+    rec: No<D>,
 }
 
 // The pair of an invented write with no greater pair after it.
@@ -40,7 +42,10 @@ fn term_pair(term: u64, seen: Seen, place: usize, call_at: usize) -> Option<Pair
 }
 
 // The next known pair after each invented write, from the last to the first.
-fn pairs_behind(alloc: Global, writes: &[ChainWrite]) -> Result<Vec<Option<Pair>>, NoMemory> {
+fn pairs_behind<D: Count>(
+    alloc: Global,
+    writes: &[ChainWrite<D>],
+) -> Result<Vec<Option<Pair>>, NoMemory> {
     let mut behind = Vec::new(alloc);
     let mut next = None;
     for write in writes.iter().rev() {
@@ -53,15 +58,16 @@ fn pairs_behind(alloc: Global, writes: &[ChainWrite]) -> Result<Vec<Option<Pair>
 }
 
 // The answered records outside the chain, by stretch, then in response order.
-fn reads_in_order(
+fn reads_in_order<D: Count>(
     alloc: Global,
-    records: &[Rec],
-    stretches: &PerRecord<Option<usize>>,
-) -> Result<Vec<Outside>, NoMemory> {
+    records: Records<'_, D>,
+    stretches: &Table<D, Option<usize>>,
+) -> Result<Vec<Outside<D>>, NoMemory> {
     let mut reads = Vec::with_capacity(alloc, records.len())?;
-    for rec in 0..records.len() {
+    for index in 0..records.len() {
+        let rec = No::new(index);
         if let Some(stretch) = stretches.of(rec) {
-            if let Some(heard) = records[rec].heard {
+            if let Some(heard) = records.of(rec).heard {
                 reads.push(Outside {
                     stretch,
                     reply_at: heard.0,
@@ -100,14 +106,19 @@ impl PairNumbering {
 
     // The place of the next write of the chain, with this index in the order. `None` if its pair would be
     // between two pairs of one term, or out of range.
-    fn place_of(&mut self, write: ChainWrite, found: Rec, place: usize) -> Option<Place> {
+    fn place_of<D: Count>(
+        &mut self,
+        write: ChainWrite<D>,
+        found: Rec,
+        place: usize,
+    ) -> Option<Place> {
         self.last = match write.pair {
             Some(pair) => Some(pair),
             None => self.invented_pair(found, place),
         };
         let own = self.last?;
         Some(Place {
-            rec: write.rec,
+            rec: write.rec.index(),
             // A reply that shows the pair needs no pair at its place.
             pair: match found.pair_taken() {
                 Some(_) => None,
@@ -118,9 +129,9 @@ impl PairNumbering {
 }
 
 // Adds the places of the reads, from one of them on, up to a stretch; and which one is next.
-fn push_reads(
+fn push_reads<D: Count>(
     places: &mut Vec<Place>,
-    reads: &[Outside],
+    reads: &[Outside<D>],
     next: usize,
     last: usize,
 ) -> Result<usize, NoMemory> {
@@ -129,7 +140,10 @@ fn push_reads(
         if stretch > last {
             return Ok(i);
         }
-        places.push(Place { rec, pair: None })?;
+        places.push(Place {
+            rec: rec.index(),
+            pair: None,
+        })?;
     }
     Ok(reads.len())
 }
@@ -138,10 +152,10 @@ fn push_reads(
 /// pair are numbered: if no pair comes after them, with a new term, and before a greater term, with a
 /// sequence number that was not seen. Returns `None` if there is no such number; so for a write between two
 /// pairs of one term.
-pub fn places_with_pairs(
+pub fn places_with_pairs<D: Count>(
     alloc: Global,
-    records: &[Rec],
-    chain: &Chain,
+    records: Records<'_, D>,
+    chain: &Chain<D>,
     seen: Seen,
 ) -> Result<Option<Vec<Place>>, NoMemory> {
     let writes = chain.writes.as_slice();
@@ -156,10 +170,7 @@ pub fn places_with_pairs(
     for stretch in 0..writes.len() {
         next = push_reads(&mut places, &reads, next, stretch)?;
         let write = writes[stretch];
-        let Some(found) = record(records, write.rec) else {
-            return Ok(None);
-        };
-        match numbering.place_of(write, found, places.len()) {
+        match numbering.place_of(write, records.of(write.rec), places.len()) {
             Some(place) => places.push(place)?,
             None => return Ok(None),
         }

@@ -1,6 +1,8 @@
 use crate::chain_write::is_conflict;
+use crate::count::{Count, No};
 use crate::lines::Lines;
-use crate::per_record::PerRecord;
+use crate::records::Records;
+use crate::table::Table;
 use crate::timed::Timed;
 use doc_register::Conflicts;
 use events::Rec;
@@ -17,19 +19,19 @@ pub enum ConflictOrder {
 /// The writes that a get can have shown although no reply of theirs shows it, by number: the unanswered ones,
 /// and under Maybe those whose reply is a conflict.
 #[derive(Drop)]
-pub struct WritesByNumber {
+pub struct WritesByNumber<D: Count> {
     // The numbers, rising, and the line of each.
     numbers: Vec<u64>,
-    lines: Lines,
+    lines: Lines<D>,
 }
 
 // A write with its number.
-#[derive(Clone, Copy, PartialEq, Eq, PartialOrd, Ord)]
-struct NumberedWrite {
+#[derive_where(Clone, Copy, PartialEq, Eq, PartialOrd, Ord)]
+struct NumberedWrite<D: Count> {
     number: u64,
     // Whether it comes after those of its number of which this isn't so.
     is_late: bool,
-    write: Timed,
+    write: Timed<D>,
 }
 
 /// Returns the number of a write that may be completed.
@@ -39,15 +41,16 @@ pub fn number_of(found: Rec, conflicts: Conflicts) -> Option<u64> {
 }
 
 // The writes by number, in the order that each number's are in.
-fn writes_by_number(
+fn writes_by_number<D: Count>(
     alloc: Global,
-    records: &[Rec],
+    records: Records<'_, D>,
     conflicts: Conflicts,
     order: ConflictOrder,
-) -> Result<Vec<NumberedWrite>, NoMemory> {
+) -> Result<Vec<NumberedWrite<D>>, NoMemory> {
     let mut writes = Vec::new(alloc);
-    for rec in 0..records.len() {
-        let found = records[rec];
+    for index in 0..records.len() {
+        let rec = No::new(index);
+        let found = records.of(rec);
         if let Some(number) = number_of(found, conflicts) {
             writes.push(NumberedWrite {
                 number,
@@ -63,24 +66,24 @@ fn writes_by_number(
     Ok(writes)
 }
 
-impl WritesByNumber {
+impl<D: Count> WritesByNumber<D> {
     /// Returns the writes of a document by number.
     pub fn of(
         alloc: Global,
-        records: &[Rec],
+        records: Records<'_, D>,
         conflicts: Conflicts,
         order: ConflictOrder,
-    ) -> Result<WritesByNumber, NoMemory> {
+    ) -> Result<WritesByNumber<D>, NoMemory> {
+        let entries = writes_by_number(alloc, records, conflicts, order)?;
         let mut writes = WritesByNumber {
             numbers: Vec::new(alloc),
-            lines: Lines::none(alloc),
+            lines: Lines::with_room(alloc, 0, entries.len())?,
         };
-        for entry in &writes_by_number(alloc, records, conflicts, order)? {
+        for entry in &entries {
             if writes.numbers.last() != Some(&entry.number) {
                 writes.numbers.push(entry.number)?;
-                writes.lines.begin()?;
             }
-            writes.lines.push(entry.write)?;
+            writes.lines.push(writes.numbers.len() - 1, entry.write)?;
         }
         Ok(writes)
     }
@@ -91,7 +94,7 @@ impl WritesByNumber {
     }
 
     /// Returns the write of the number, if it is the only one.
-    pub fn only(&self, k: u64) -> Option<usize> {
+    pub fn only(&self, k: u64) -> Option<No<D>> {
         match self.lines.all(self.line(k)?) {
             [entry] => Some(entry.rec),
             _ => None,
@@ -99,21 +102,21 @@ impl WritesByNumber {
     }
 
     /// Puts a write back that was taken. Those of its number must be in the order of calls.
-    pub fn put_back(&mut self, k: u64, left: Timed) {
+    pub fn put_back(&mut self, k: u64, left: Timed<D>) {
         if let Some(line) = self.line(k) {
             self.lines.put_back(line, left);
         }
     }
 
     /// Returns the first write of the number that is left, and passes over those before it.
-    pub fn first(&mut self, k: u64, taken: &PerRecord<bool>) -> Option<Timed> {
+    pub fn first(&mut self, k: u64, taken: &Table<D, bool>) -> Option<Timed<D>> {
         let line = self.line(k)?;
         self.lines.first(line, taken)
     }
 
     /// Returns the writes of the number that are called after an index, if one is given, without some of those
     /// that were placed. They must be in the order of calls.
-    pub fn waiting(&self, k: u64, last: Option<usize>) -> &[Timed] {
+    pub fn waiting(&self, k: u64, last: Option<usize>) -> &[Timed<D>] {
         let Some(line) = self.line(k) else {
             return &[];
         };

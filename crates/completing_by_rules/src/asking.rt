@@ -2,7 +2,7 @@ use crate::lost::Lost;
 use crate::performing::perform;
 use crate::plan::{InStretch, RoundPlan};
 use crate::stand::Stand;
-use completing::is_conflict;
+use completing::{Count, No, Records, is_conflict};
 use doc_register::{Conflicts, Op};
 use events::Rec;
 use version_pair::NoMemory;
@@ -10,13 +10,13 @@ use version_pair::NoMemory;
 // Inserts a write after the stretch for a call that finds no stretch: for a missing, a delete; for a create's
 // conflict, a write of the document; and for a conflict on a pair, any write after which the flag of the next
 // write still fits.
-fn serve(
-    records: &[Rec],
-    plan: &mut RoundPlan,
-    lost: &mut Lost,
+fn serve<D: Count, S: Count>(
+    records: Records<'_, D>,
+    plan: &mut RoundPlan<D, S>,
+    lost: &mut Lost<D>,
     found: Rec,
     reply_at: usize,
-    stretch: usize,
+    stretch: No<S>,
 ) -> Result<bool, NoMemory> {
     let (delete, write) = match found.op {
         Op::Get => (true, false),
@@ -37,17 +37,17 @@ fn serve(
 /// inserted for it: for a conflict on a pair directly after the write of that pair, otherwise after the last
 /// write that may come before it. Under Maybe a conflict for which there is nothing to insert becomes a write
 /// itself. Returns `None` if nothing is inserted.
-pub fn ask(
-    records: &[Rec],
-    plan: &mut RoundPlan,
-    stand: &Stand,
-    lost: &mut Lost,
+pub fn ask<D: Count, S: Count>(
+    records: Records<'_, D>,
+    plan: &mut RoundPlan<D, S>,
+    stand: &Stand<D, S>,
+    lost: &mut Lost<D>,
     conflicts: Conflicts,
-    bound: usize,
-    rec: usize,
+    bound: No<S>,
+    rec: No<D>,
     found: Rec,
     reply_at: usize,
-) -> Result<Option<usize>, NoMemory> {
+) -> Result<Option<No<S>>, NoMemory> {
     let stretch = match found.op.condition() {
         Some(pair) => stand.of_pair(pair),
         None => Some(bound),

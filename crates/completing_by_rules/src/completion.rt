@@ -1,13 +1,16 @@
+ghost use Rattle.std.specs.Prelude.{◌≡◌, length};
+
 use crate::lost::Lost;
 use crate::named::named_chain;
-use crate::refused::Refused;
+use crate::refused::refused_writes;
 use crate::round::{Round, next_round};
-use completing::places_with_pairs;
+use completing::{Count, Records, places_with_pairs};
 use doc_register::Conflicts;
 use events::{Rec, Seen};
 use places::Place;
 use std::alloc::Global;
-use version_pair::{NoMemory, Pair};
+use std::marker::Brand;
+use version_pair::NoMemory;
 
 /// Returns an order that completes unanswered writes, by rules. First the pairs that are named get their
 /// writes. Then, in rounds, the flags that do not fit ask for writes, then the calls that find no stretch,
@@ -20,13 +23,29 @@ pub fn complete_by_rules(
     seen: Seen,
     conflicts: Conflicts,
 ) -> Result<Option<Vec<Place>>, NoMemory> {
+    complete::<Brand>(alloc, records, seen, conflicts)
+}
+
+// The same. `D` counts the records.
+fn complete<D: Count>(
+    alloc: Global,
+    records: &[Rec],
+    seen: Seen,
+    conflicts: Conflicts,
+) -> Result<Option<Vec<Place>>, NoMemory>
+    requires { length records.now ≡ D.number }
+{
+    let records = Records::<D>::new(records);
     let mut lost = Lost::of(alloc, records)?;
     let Some(mut writes) = named_chain(alloc, records, &mut lost, conflicts)? else {
         return Ok(None);
     };
-    let mut refused = Refused::of(alloc, records, &lost)?;
+    let refused = refused_writes(alloc, records, &lost)?;
+    if conflicts == Conflicts::Plain && !refused.is_empty() {
+        return Ok(None);
+    }
     for _ in 0..records.len() + 1 {
-        match next_round(alloc, records, writes, &mut lost, &mut refused, conflicts)? {
+        match next_round::<D, Brand>(alloc, records, writes, &mut lost, &refused, conflicts)? {
             Round::More(more) => writes = more,
             Round::Done(chain) => return places_with_pairs(alloc, records, &chain, seen),
             Round::Stuck => return Ok(None),

@@ -11,7 +11,6 @@ mod completion;
 mod flags;
 mod lost;
 mod named;
-mod open;
 mod performing;
 mod plan;
 mod queue;

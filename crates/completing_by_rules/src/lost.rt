@@ -1,5 +1,5 @@
 use crate::queue::Queue;
-use completing::{PerRecord, Timed, earlier, leaves_it};
+use completing::{Count, No, Records, Table, Timed, earlier, leaves_it};
 use doc_register::{Conflicts, Op};
 use events::Rec;
 use std::alloc::Global;
@@ -7,24 +7,24 @@ use version_pair::{NoMemory, Pair};
 
 /// The unanswered writes that may be completed, each kind in the order of calls, and which records are taken.
 #[derive(Drop)]
-pub struct Lost {
+pub struct Lost<D: Count> {
     // The writes of which no reply says that they were performed.
-    incomplete: Vec<usize>,
+    incomplete: Vec<No<D>>,
     // Whether the record is in the chain.
-    taken: PerRecord<bool>,
+    taken: Table<D, bool>,
     // Those without a condition.
-    deletes: Queue,
-    indexes: Queue,
-    creates: Queue,
+    deletes: Queue<D>,
+    indexes: Queue<D>,
+    creates: Queue<D>,
     // Those with a condition, by its pair.
-    swaps: Vec<Swap>,
+    swaps: Vec<Swap<D>>,
 }
 
 // An unanswered write under the condition of a pair.
-#[derive(Clone, Copy, PartialEq, Eq, PartialOrd, Ord)]
-struct Swap {
+#[derive_where(Clone, Copy, PartialEq, Eq, PartialOrd, Ord)]
+struct Swap<D: Count> {
     pair: Pair,
-    write: Timed,
+    write: Timed<D>,
     deletes: bool,
 }
 
@@ -43,20 +43,21 @@ pub struct Ask {
     pub limit: usize,
 }
 
-impl Lost {
+impl<D: Count> Lost<D> {
     /// Returns the unanswered writes of a document.
-    pub fn of(alloc: Global, records: &[Rec]) -> Result<Lost, NoMemory> {
+    pub fn of(alloc: Global, records: Records<'_, D>) -> Result<Lost<D>, NoMemory> {
         let mut lost = Lost {
             incomplete: Vec::new(alloc),
-            taken: PerRecord::new(alloc, records, false)?,
+            taken: Table::new(alloc, records.len(), false)?,
             deletes: Queue::new(alloc),
             indexes: Queue::new(alloc),
             creates: Queue::new(alloc),
             swaps: Vec::new(alloc),
         };
-        for rec in 0..records.len() {
-            if !records[rec].is_complete(Conflicts::Maybe) {
-                lost.note(rec, records[rec])?;
+        for index in 0..records.len() {
+            let rec = No::new(index);
+            if !records.of(rec).is_complete(Conflicts::Maybe) {
+                lost.note(rec, records.of(rec))?;
             }
         }
         lost.deletes.sort();
@@ -67,7 +68,7 @@ impl Lost {
     }
 
     // Adds a write of which no reply says that it was performed.
-    fn note(&mut self, rec: usize, found: Rec) -> Result<(), NoMemory> {
+    fn note(&mut self, rec: No<D>, found: Rec) -> Result<(), NoMemory> {
         self.incomplete.push(rec)?;
         if found.heard.is_some() {
             return Ok(());
@@ -95,22 +96,22 @@ impl Lost {
     }
 
     /// Returns the writes of which no reply says that they were performed, in their order.
-    pub fn incomplete(&self) -> &[usize] {
+    pub fn incomplete(&self) -> &[No<D>] {
         &self.incomplete
     }
 
     /// Takes the record into the chain.
-    pub fn take(&mut self, rec: usize) {
+    pub fn take(&mut self, rec: No<D>) {
         self.taken.set(rec, true);
     }
 
     /// Returns, for each record, whether it is in the chain.
-    pub fn taken(&self) -> &PerRecord<bool> {
+    pub fn taken(&self) -> &Table<D, bool> {
         &self.taken
     }
 
     /// Returns the first, by call, of the writes that would be performed there. It must be called in time.
-    pub fn candidate(&mut self, ask: Ask) -> Option<usize> {
+    pub fn candidate(&mut self, ask: Ask) -> Option<No<D>> {
         let mut first = None;
         if ask.delete {
             first = earlier(first, self.deletes.first(&self.taken));
@@ -131,7 +132,7 @@ impl Lost {
     }
 
     // The first, by call, of the writes under the condition of the pair.
-    fn swap(&self, pair: Pair, ask: Ask) -> Option<Timed> {
+    fn swap(&self, pair: Pair, ask: Ask) -> Option<Timed<D>> {
         let start = self.swaps.partition_point(|entry| entry.pair < pair);
         for i in start..self.swaps.len() {
             let entry = self.swaps[i];

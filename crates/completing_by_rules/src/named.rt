@@ -1,22 +1,23 @@
+ghost use Rattle.std.specs.Prelude.{◌<◌, All};
+
 use crate::lost::Lost;
 use crate::queue::Queue;
-use completing::{ChainWrite, ConflictOrder, Timed, WritesByNumber, find_near, record};
+use completing::{ChainWrite, ConflictOrder, Count, No, Records, Timed, WritesByNumber, find_near};
 use doc_register::{Conflicts, Op, Reply};
-use events::Rec;
 use std::alloc::Global;
 use std::collections::BTreeSet;
 use version_pair::{NoMemory, Pair};
 use write_chain::{chain_of, rises, sort_nearly_ordered};
 
 // The pairs and numbers that gets found and that no write of the chain has, by pair.
-fn unwritten(
+fn unwritten<D: Count>(
     alloc: Global,
-    records: &[Rec],
+    records: Records<'_, D>,
     chain: &[(Pair, usize)],
 ) -> Result<Vec<(Pair, u64)>, NoMemory> {
     let mut unwritten = Vec::new(alloc);
     let mut near = 0;
-    for found in records {
+    for found in records.all() {
         if let Some((_, Reply::Found { pair, k })) = found.heard {
             if find_near(chain, pair, &mut near).is_none() {
                 unwritten.push((pair, k))?;
@@ -28,21 +29,19 @@ fn unwritten(
 }
 
 // The unanswered indexes in the order of calls.
-fn unanswered_indexes(
+fn unanswered_indexes<D: Count>(
     alloc: Global,
-    records: &[Rec],
-    incomplete: &[usize],
-) -> Result<Queue, NoMemory> {
+    records: Records<'_, D>,
+    incomplete: &[No<D>],
+) -> Result<Queue<D>, NoMemory> {
     let mut indexes = Queue::new(alloc);
     for rec in incomplete {
-        match record(records, *rec) {
-            Some(found) if found.heard.is_none() && matches!(found.op, Op::Index { .. }) => {
-                indexes.push(Timed {
-                    at: found.call_at,
-                    rec: *rec,
-                })?;
-            }
-            _ => {}
+        let found = records.of(*rec);
+        if found.heard.is_none() && matches!(found.op, Op::Index { .. }) {
+            indexes.push(Timed {
+                at: found.call_at,
+                rec: *rec,
+            })?;
         }
     }
     indexes.sort();
@@ -51,18 +50,19 @@ fn unanswered_indexes(
 
 // The chain that is being named.
 #[derive(Drop)]
-struct Naming<'a> {
+struct Naming<'a, D: Count> {
     // The performed answered writes, by pair.
     chain: &'a [(Pair, usize)],
     // The writes that are given pairs.
-    named: Vec<(Pair, usize)>,
+    named: Vec<(Pair, No<D>)>,
     // The pairs that they are given.
     given: BTreeSet<Pair>,
     // The conditions of the writes that are not pairs of the writes, or were not when they were added.
     asked: BTreeSet<Pair>,
+    ghost within: { All (λ link. link.1 < D.number) chain.now },
 }
 
-impl Naming<'_> {
+impl<D: Count> Naming<'_, D> {
     // Whether a write has the pair, which is searched for near an index of the chain first.
     fn has(&self, pair: Pair, mut near: usize) -> bool {
         find_near(self.chain, pair, &mut near).is_some() || self.given.contains(&pair)
@@ -71,17 +71,15 @@ impl Naming<'_> {
     // Takes the record, whose pair is near an index of the chain.
     fn take(
         &mut self,
-        records: &[Rec],
-        lost: &mut Lost,
-        rec: usize,
+        records: Records<'_, D>,
+        lost: &mut Lost<D>,
+        rec: No<D>,
         near: usize,
     ) -> Result<(), NoMemory> {
         lost.take(rec);
-        if let Some(found) = record(records, rec) {
-            if let Some(named) = found.op.condition() {
-                if !self.has(named, near) {
-                    self.asked.insert(named)?;
-                }
+        if let Some(named) = records.of(rec).op.condition() {
+            if !self.has(named, near) {
+                self.asked.insert(named)?;
             }
         }
         Ok(())
@@ -90,10 +88,10 @@ impl Naming<'_> {
     // Gives the record the pair.
     fn give(
         &mut self,
-        records: &[Rec],
-        lost: &mut Lost,
+        records: Records<'_, D>,
+        lost: &mut Lost<D>,
         pair: Pair,
-        rec: usize,
+        rec: No<D>,
     ) -> Result<(), NoMemory> {
         self.given.insert(pair)?;
         self.named.push((pair, rec))?;
@@ -103,11 +101,10 @@ impl Naming<'_> {
     }
 
     // Takes the performed answered writes.
-    fn take_chain(&mut self, records: &[Rec], lost: &mut Lost) -> Result<(), NoMemory> {
+    fn take_chain(&mut self, records: Records<'_, D>, lost: &mut Lost<D>) -> Result<(), NoMemory> {
         let chain = self.chain;
         for place in 0..chain.len() {
-            let (_, rec) = chain[place];
-            self.take(records, lost, rec, place)?;
+            self.take(records, lost, No::new(chain[place].1), place)?;
         }
         Ok(())
     }
@@ -117,8 +114,8 @@ impl Naming<'_> {
     fn name_shown(
         &mut self,
         alloc: Global,
-        records: &[Rec],
-        lost: &mut Lost,
+        records: Records<'_, D>,
+        lost: &mut Lost<D>,
         conflicts: Conflicts,
     ) -> Result<bool, NoMemory> {
         let unwritten = unwritten(alloc, records, self.chain)?;
@@ -142,8 +139,8 @@ impl Naming<'_> {
     fn name_asked(
         &mut self,
         alloc: Global,
-        records: &[Rec],
-        lost: &mut Lost,
+        records: Records<'_, D>,
+        lost: &mut Lost<D>,
     ) -> Result<bool, NoMemory> {
         let mut indexes = unanswered_indexes(alloc, records, lost.incomplete())?;
         // Each write asks for at most one pair.
@@ -162,30 +159,31 @@ impl Naming<'_> {
     }
 
     // All writes, by pair.
-    fn writes(&mut self, alloc: Global) -> Result<Vec<ChainWrite>, NoMemory> {
+    fn writes(&mut self, alloc: Global) -> Result<Vec<ChainWrite<D>>, NoMemory> {
         self.named.sort_unstable();
         let room = self.chain.len() + self.named.len();
         let mut writes = Vec::with_capacity(alloc, room)?;
         let mut next = 0;
-        for own in self.chain {
+        for at in 0..self.chain.len() {
+            let (pair, rec) = self.chain[at];
             for i in next..self.named.len() {
-                if self.named[i].0 > own.0 {
+                if self.named[i].0 > pair {
                     break;
                 }
-                writes.push(with_pair(self.named[i]))?;
+                writes.push(with_pair(self.named[i].0, self.named[i].1))?;
                 next = i + 1;
             }
-            writes.push(with_pair(*own))?;
+            writes.push(with_pair(pair, No::new(rec)))?;
         }
         for i in next..self.named.len() {
-            writes.push(with_pair(self.named[i]))?;
+            writes.push(with_pair(self.named[i].0, self.named[i].1))?;
         }
         Ok(writes)
     }
 }
 
 // A write that has this pair.
-fn with_pair((pair, rec): (Pair, usize)) -> ChainWrite {
+fn with_pair<D: Count>(pair: Pair, rec: No<D>) -> ChainWrite<D> {
     ChainWrite {
         pair: Some(pair),
         rec,
@@ -195,13 +193,13 @@ fn with_pair((pair, rec): (Pair, usize)) -> ChainWrite {
 /// Returns the chain with a write for each pair that is named, by a get that found it or by the condition of
 /// a write in the chain. Returns `None` if none is left to complete, or if two performed answered writes have
 /// the same pair.
-pub fn named_chain(
+pub fn named_chain<D: Count>(
     alloc: Global,
-    records: &[Rec],
-    lost: &mut Lost,
+    records: Records<'_, D>,
+    lost: &mut Lost<D>,
     conflicts: Conflicts,
-) -> Result<Option<Vec<ChainWrite>>, NoMemory> {
-    let chain = chain_of(alloc, records)?;
+) -> Result<Option<Vec<ChainWrite<D>>>, NoMemory> {
+    let chain = chain_of(alloc, records.all())?;
     if !rises(&chain) {
         return Ok(None);
     }

@@ -1,22 +1,23 @@
 use crate::flags::fit_flag;
 use crate::lost::Lost;
 use crate::plan::{InStretch, RoundPlan};
-use crate::refused::Refused;
+use crate::refused::RefusedWalk;
 use crate::stand::Stand;
+use completing::{Count, No, Records};
 use events::Rec;
 use version_pair::NoMemory;
 
 /// Makes a conflict a write: with a condition directly after the write of its pair, a create directly before
 /// the first write whose call comes after its reply. Returns its stretch, if there is one with a number left.
-pub fn perform(
-    records: &[Rec],
-    plan: &mut RoundPlan,
-    stand: &Stand,
-    lost: &mut Lost,
+pub fn perform<D: Count, S: Count>(
+    records: Records<'_, D>,
+    plan: &mut RoundPlan<D, S>,
+    stand: &Stand<D, S>,
+    lost: &mut Lost<D>,
     found: Rec,
     reply_at: usize,
-    rec: usize,
-) -> Result<Option<usize>, NoMemory> {
+    rec: No<D>,
+) -> Result<Option<No<S>>, NoMemory> {
     let (stretch, side) = match found.op.condition() {
         Some(pair) => (stand.of_pair(pair), InStretch::After),
         None => (Some(plan.stretch_at(reply_at)), InStretch::Before),
@@ -34,16 +35,16 @@ pub fn perform(
 /// Makes the conflicts without a condition that are left writes, in response order: each directly before the
 /// first write whose call comes after its reply, or at the end of the chain. Returns `false` if one finds no
 /// number, or if there is no write to insert for the flag that follows it.
-pub fn perform_refused(
-    records: &[Rec],
-    plan: &mut RoundPlan,
-    lost: &mut Lost,
-    refused: &mut Refused,
+pub fn perform_refused<D: Count, S: Count>(
+    records: Records<'_, D>,
+    plan: &mut RoundPlan<D, S>,
+    lost: &mut Lost<D>,
+    refused: &mut RefusedWalk<'_, D>,
 ) -> Result<bool, NoMemory> {
-    for i in 0..refused.len() {
-        let Some(entry) = refused.left(i, lost.taken()) else {
+    for entry in refused.all {
+        if lost.taken().of(entry.rec) {
             continue;
-        };
+        }
         let stretch = plan.stretch_at(entry.reply_at);
         let has_place = plan.insert(records, lost, stretch, InStretch::Before, entry.rec)?;
         if !has_place || !fit_flag(records, plan, lost, refused, stretch)? {

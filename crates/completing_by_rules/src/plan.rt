@@ -1,7 +1,7 @@
+ghost use Rattle.std.specs.Prelude.{◌≡◌, ◌+◌, length};
+
 use crate::lost::{Ask, Lost};
-use crate::open::open_stretches;
-use completing::{ChainWrite, leaves_it, needs, record};
-use events::Rec;
+use completing::{ChainWrite, Count, No, PairRange, Records, Table, leaves_it, needs};
 use std::alloc::Global;
 use version_pair::{NoMemory, Pair};
 
@@ -26,14 +26,14 @@ pub struct Stretch {
 
 /// What a round knows of the chain, and what it inserts.
 #[derive(Drop)]
-pub struct RoundPlan {
-    pub writes: Vec<ChainWrite>,
-    /// The stretches in their order: one more than there are writes.
-    pub stretches: Vec<Stretch>,
+pub struct RoundPlan<D: Count, S: Count> {
+    pub writes: Vec<ChainWrite<D>>,
+    stretches: Table<S, Stretch>,
     // The greatest call of what is inserted.
     inserted_call: usize,
     // All that is inserted.
-    news: Vec<Insertion>,
+    news: Vec<Insertion<D, S>>,
+    ghost counted: { length writes.items + 1 ≡ S.number },
 }
 
 /// Where an insertion is in its stretch.
@@ -47,12 +47,12 @@ pub enum InStretch {
 
 // A write that is inserted. They go into the chain by stretch, by side, and in the order in which they were
 // inserted.
-#[derive(Clone, Copy, PartialEq, Eq, PartialOrd, Ord)]
-struct Insertion {
-    stretch: usize,
+#[derive_where(Clone, Copy, PartialEq, Eq, PartialOrd, Ord)]
+struct Insertion<D: Count, S: Count> {
+    stretch: No<S>,
     side: InStretch,
     turn: usize,
-    rec: usize,
+    rec: No<D>,
 }
 
 impl Stretch {
@@ -63,96 +63,112 @@ impl Stretch {
             live: false,
             needs: None,
             has_inserted: false,
-            is_open: false,
+            is_open: true,
             limit: usize::MAX,
             latest_call: 0,
         }
     }
 }
 
-// The stretches of the chain, of which none is open yet. The limit of each is the reply of the write after it.
-fn stretches_of(
-    alloc: Global,
-    records: &[Rec],
-    writes: &[ChainWrite],
-) -> Result<Vec<Stretch>, NoMemory> {
-    let mut stretches = Vec::with_capacity(alloc, writes.len() + 1)?;
-    let mut stretch = Stretch::first();
-    for write in writes {
-        let Some(found) = record(records, write.rec) else {
-            continue;
-        };
-        stretches.push(Stretch {
-            needs: needs(found),
-            limit: found.heard.map_or(usize::MAX, |heard| heard.0),
-            ..stretch
-        })?;
-        let live = leaves_it(found.op);
-        stretch = Stretch {
-            pair: if live { write.pair } else { None },
-            live,
-            latest_call: stretch.latest_call.max(found.call_at),
-            ..Stretch::first()
-        };
-    }
-    stretches.push(stretch)?;
-    Ok(stretches)
-}
-
-impl RoundPlan {
+impl<D: Count, S: Count> RoundPlan<D, S> {
     /// Returns the plan of a round over the chain.
     pub fn of(
         alloc: Global,
-        records: &[Rec],
-        writes: Vec<ChainWrite>,
-    ) -> Result<RoundPlan, NoMemory> {
-        let open = open_stretches(alloc, &writes)?;
+        records: Records<'_, D>,
+        writes: Vec<ChainWrite<D>>,
+    ) -> Result<RoundPlan<D, S>, NoMemory>
+        // One stretch comes before all writes, and one after each.
+        requires { length writes.items + 1 ≡ S.number }
+    {
         let mut plan = RoundPlan {
-            stretches: stretches_of(alloc, records, &writes)?,
+            stretches: Table::new(alloc, writes.len() + 1, Stretch::first())?,
             inserted_call: 0,
             news: Vec::new(alloc),
             writes,
         };
+        plan.note_writes(records);
+        plan.close();
         plan.lower_limits();
-        plan.note_open(&open);
         Ok(plan)
+    }
+
+    /// Returns the last stretch.
+    pub fn last(&self) -> No<S> {
+        No::new(self.writes.len())
+    }
+
+    // Sets what the writes say of the stretches. The limit of each is the reply of the write after it.
+    fn note_writes(&mut self, records: Records<'_, D>) {
+        let mut stretch = Stretch::first();
+        for at in 0..self.writes.len() {
+            let write = self.writes[at];
+            let found = records.of(write.rec);
+            let own = Stretch {
+                needs: needs(found),
+                limit: found.heard.map_or(usize::MAX, |heard| heard.0),
+                ..stretch
+            };
+            self.stretches.set(No::new(at), own);
+            let live = leaves_it(found.op);
+            stretch = Stretch {
+                pair: if live { write.pair } else { None },
+                live,
+                latest_call: stretch.latest_call.max(found.call_at),
+                ..Stretch::first()
+            };
+        }
+        let last = self.last();
+        self.stretches.set(last, stretch);
+    }
+
+    // Closes the stretches between two pairs of one term, whose numbers other documents may need as well.
+    fn close(&mut self) {
+        let mut last = None;
+        let mut from = 0;
+        for at in 0..self.writes.len() {
+            if let Some(pair) = self.writes[at].pair {
+                if PairRange::between(last, pair).is_some() {
+                    for stretch in from..at + 1 {
+                        let mut own = self.stretches.of(No::new(stretch));
+                        own.is_open = false;
+                        self.stretches.set(No::new(stretch), own);
+                    }
+                }
+                last = Some(pair);
+                from = at + 1;
+            }
+        }
     }
 
     // Lowers each limit to the least of those from its stretch on.
     fn lower_limits(&mut self) {
         let mut least = usize::MAX;
-        for stretch in self.stretches.iter_mut().rev() {
-            least = least.min(stretch.limit);
-            stretch.limit = least;
-        }
-    }
-
-    // Sets in which stretches a write may be inserted.
-    fn note_open(&mut self, open: &[bool]) {
-        for (stretch, is_open) in self.stretches.iter_mut().zip(open.iter()) {
-            stretch.is_open = *is_open;
+        for back in 0..self.writes.len() + 1 {
+            let stretch = No::new(self.writes.len() - back);
+            let mut own = self.stretches.of(stretch);
+            least = least.min(own.limit);
+            own.limit = least;
+            self.stretches.set(stretch, own);
         }
     }
 
     /// Inserts the record's write in the stretch, if one may be inserted there.
     pub fn insert(
         &mut self,
-        records: &[Rec],
-        lost: &mut Lost,
-        stretch: usize,
+        records: Records<'_, D>,
+        lost: &mut Lost<D>,
+        stretch: No<S>,
         side: InStretch,
-        rec: usize,
+        rec: No<D>,
     ) -> Result<bool, NoMemory> {
-        let Some(found) = record(records, rec) else {
+        let found = records.of(rec);
+        let mut own = self.stretches.of(stretch);
+        if !own.is_open {
             return Ok(false);
-        };
-        match self.stretches.get_mut(stretch) {
-            Some(own) if own.is_open => {
-                own.has_inserted = true;
-                own.live = leaves_it(found.op);
-            }
-            _ => return Ok(false),
         }
+        own.has_inserted = true;
+        own.live = leaves_it(found.op);
+        self.stretches.set(stretch, own);
         self.news.push(Insertion {
             stretch,
             side,
@@ -164,30 +180,25 @@ impl RoundPlan {
         Ok(true)
     }
 
-    /// Returns the stretch with the number. (After the last one there are only closed ones.)
-    pub fn stretch(&self, stretch: usize) -> Stretch {
-        match self.stretches.get(stretch) {
-            Some(own) => *own,
-            None => Stretch::first(),
-        }
+    /// Returns the stretch with the number.
+    pub fn stretch(&self, stretch: No<S>) -> Stretch {
+        self.stretches.of(stretch)
     }
 
     /// Returns the first stretch whose next write is called after the index.
-    pub fn stretch_at(&self, place: usize) -> usize {
-        match self.stretches.split_first() {
-            Some((_, later)) => later.partition_point(|stretch| stretch.latest_call <= place),
-            None => 0,
-        }
+    pub fn stretch_at(&self, place: usize) -> No<S> {
+        let later = &self.stretches.values()[1..];
+        No::new(later.partition_point(|stretch| stretch.latest_call <= place))
     }
 
     /// Returns the greatest call of the writes before the end of the stretch, if nothing is inserted after
     /// it.
-    pub fn latest_call(&self, stretch: usize) -> usize {
+    pub fn latest_call(&self, stretch: No<S>) -> usize {
         self.stretch(stretch).latest_call.max(self.inserted_call)
     }
 
     /// Returns what an insertion at the end of the stretch needs.
-    pub fn ask(&self, stretch: usize, delete: bool, write: bool, limit: usize) -> Ask {
+    pub fn ask(&self, stretch: No<S>, delete: bool, write: bool, limit: usize) -> Ask {
         let own = self.stretch(stretch);
         Ask {
             delete,
@@ -204,14 +215,14 @@ impl RoundPlan {
     }
 
     /// Returns the chain with all that is inserted.
-    pub fn merge(&mut self, alloc: Global) -> Result<Vec<ChainWrite>, NoMemory> {
+    pub fn merge(&mut self, alloc: Global) -> Result<Vec<ChainWrite<D>>, NoMemory> {
         self.news.sort_unstable();
         let mut merged = Vec::with_capacity(alloc, self.writes.len() + self.news.len())?;
         let mut next = 0;
         for write in 0..self.writes.len() {
             for i in next..self.news.len() {
                 let Insertion { stretch, rec, .. } = self.news[i];
-                if stretch > write {
+                if stretch.index() > write {
                     break;
                 }
                 merged.push(ChainWrite { pair: None, rec })?;

@@ -1,21 +1,21 @@
 ghost use Rattle.std.specs.Prelude.{◌≤◌, length};
 
-use completing::{PerRecord, Timed, first_left};
+use completing::{Count, Table, Timed, first_left};
 use std::alloc::Global;
 use version_pair::NoMemory;
 
 /// Records, each with an index, and the first one that is left.
 #[derive(Drop)]
-pub struct Queue {
-    entries: Vec<Timed>,
+pub struct Queue<D: Count> {
+    entries: Vec<Timed<D>>,
     // The index of the entry before which none is left.
     first: usize,
     ghost within: { first ≤ length entries.items },
 }
 
-impl Queue {
+impl<D: Count> Queue<D> {
     /// Returns a queue without records.
-    pub fn new(alloc: Global) -> Queue {
+    pub fn new(alloc: Global) -> Queue<D> {
         Queue {
             entries: Vec::new(alloc),
             first: 0,
@@ -23,7 +23,7 @@ impl Queue {
     }
 
     /// Adds a record. The queue must be sorted before the first record is asked for.
-    pub fn push(&mut self, entry: Timed) -> Result<(), NoMemory> {
+    pub fn push(&mut self, entry: Timed<D>) -> Result<(), NoMemory> {
         self.entries.push(entry)?;
         Ok(())
     }
@@ -34,7 +34,7 @@ impl Queue {
     }
 
     /// Returns the first one that is left.
-    pub fn first(&mut self, taken: &PerRecord<bool>) -> Option<Timed> {
+    pub fn first(&mut self, taken: &Table<D, bool>) -> Option<Timed<D>> {
         self.first = first_left(&self.entries, self.first, taken);
         self.entries.get(self.first).copied()
     }

@@ -1,11 +1,13 @@
+ghost use Rattle.std.specs.Prelude.{◌≡◌, ◌+◌, length};
+
 use crate::asking::ask;
 use crate::flags::fit_flags;
 use crate::lost::Lost;
 use crate::performing::perform_refused;
 use crate::plan::RoundPlan;
-use crate::refused::Refused;
+use crate::refused::{RefusedWalk, RefusedWrite};
 use crate::stand::Stand;
-use completing::{Chain, ChainWrite, is_free_conflict};
+use completing::{Chain, ChainWrite, Count, No, Records, is_free_conflict};
 use doc_register::Conflicts;
 use events::Rec;
 use std::alloc::Global;
@@ -13,28 +15,28 @@ use version_pair::NoMemory;
 
 /// The result of a round.
 #[derive(Drop)]
-pub enum Round {
+pub enum Round<D: Count> {
     /// Writes were inserted: the chain with them.
-    More(Vec<ChainWrite>),
+    More(Vec<ChainWrite<D>>),
     /// All answered records have a stretch.
-    Done(Chain),
+    Done(Chain<D>),
     /// A rule found no write to take.
     Stuck,
 }
 
 // Gives a record outside the chain, answered there, its stretch, if needed with a write that is inserted for
 // it. Returns `false` if it gets none.
-fn place_read(
-    records: &[Rec],
-    plan: &mut RoundPlan,
-    stand: &mut Stand,
-    lost: &mut Lost,
+fn place_read<D: Count, S: Count>(
+    records: Records<'_, D>,
+    plan: &mut RoundPlan<D, S>,
+    stand: &mut Stand<D, S>,
+    lost: &mut Lost<D>,
     conflicts: Conflicts,
-    rec: usize,
+    rec: No<D>,
     found: Rec,
     reply_at: usize,
 ) -> Result<bool, NoMemory> {
-    let bound = stand.bound(reply_at, plan.writes.len());
+    let bound = stand.bound(reply_at, plan.last());
     let stretch = match stand.latest(plan, found, bound) {
         Some(stretch) => Some(stretch),
         None => ask(
@@ -54,16 +56,17 @@ fn place_read(
 // Gives the answered records outside the chain their stretches, each as late as it may be, by falling call.
 // Conflicts without a condition are left out. Returns `false` if one has none and there is no write to insert
 // for it.
-fn place_reads(
-    records: &[Rec],
-    plan: &mut RoundPlan,
-    stand: &mut Stand,
-    lost: &mut Lost,
+fn place_reads<D: Count, S: Count>(
+    records: Records<'_, D>,
+    plan: &mut RoundPlan<D, S>,
+    stand: &mut Stand<D, S>,
+    lost: &mut Lost<D>,
     conflicts: Conflicts,
 ) -> Result<bool, NoMemory> {
-    for back in 0..records.len() {
-        let rec = records.len() - 1 - back;
-        let found = records[rec];
+    let count = records.len();
+    for back in 0..count {
+        let rec = No::new(count - 1 - back);
+        let found = records.of(rec);
         if let Some(before) = stand.before_write(rec) {
             // What was answered before a write's call comes before the write's own stretch.
             stand.meet(found.call_at, before)?;
@@ -87,21 +90,21 @@ fn place_reads(
 
 /// Runs one round. The flags that do not fit ask for their writes; if all fit, the calls that find no stretch
 /// do; if all of these have one, the conflicts without a condition that are left become writes. What is
-/// inserted goes into the chain together.
-pub fn next_round(
+/// inserted goes into the chain together. `S` counts the stretches.
+pub fn next_round<D: Count, S: Count>(
     alloc: Global,
-    records: &[Rec],
-    writes: Vec<ChainWrite>,
-    lost: &mut Lost,
-    refused: &mut Refused,
+    records: Records<'_, D>,
+    writes: Vec<ChainWrite<D>>,
+    lost: &mut Lost<D>,
+    refused: &[RefusedWrite<D>],
     conflicts: Conflicts,
-) -> Result<Round, NoMemory> {
-    refused.begin();
-    if conflicts == Conflicts::Plain && !refused.is_empty() {
-        return Ok(Round::Stuck);
-    }
-    let mut plan = RoundPlan::of(alloc, records, writes)?;
-    if !fit_flags(records, &mut plan, lost, refused)? {
+) -> Result<Round<D>, NoMemory>
+    // One stretch comes before all writes, and one after each.
+    requires { length writes.items + 1 ≡ S.number }
+{
+    let mut walk = RefusedWalk::new(refused);
+    let mut plan = RoundPlan::<D, S>::of(alloc, records, writes)?;
+    if !fit_flags(records, &mut plan, lost, &mut walk)? {
         return Ok(Round::Stuck);
     }
     if !plan.is_done() {
@@ -111,13 +114,14 @@ pub fn next_round(
     if !place_reads(records, &mut plan, &mut stand, lost, conflicts)? {
         return Ok(Round::Stuck);
     }
-    if plan.is_done() && !perform_refused(records, &mut plan, lost, refused)? {
+    if plan.is_done() && !perform_refused(records, &mut plan, lost, &mut walk)? {
         return Ok(Round::Stuck);
     }
     if plan.is_done() {
+        let stretches = stand.into_given(alloc, records)?;
         Ok(Round::Done(Chain {
             writes: plan.writes,
-            stretches: stand.into_given(),
+            stretches,
         }))
     } else {
         Ok(Round::More(plan.merge(alloc)?))

@@ -1,5 +1,5 @@
 use crate::walk::ForwardWalk;
-use completing::PairRange;
+use completing::{Count, PairRange};
 use version_pair::Pair;
 
 /// A pair that conditions name and no write is known to have.
@@ -11,7 +11,7 @@ pub struct NamedPair {
     pub next: usize,
 }
 
-impl ForwardWalk<'_> {
+impl<D: Count> ForwardWalk<'_, D> {
     /// Returns the numbers that are left before the next known pair, if the pair before it is of the same
     /// term.
     pub fn gap(&self) -> Option<PairRange> {

@@ -1,6 +1,4 @@
-ghost use Rattle.std.specs.Prelude.{◌<◌, ◌^◌, IfSome};
-
-use completing::{HasPair, WritesByNumber, find, find_near, record};
+use completing::{Count, HasPair, No, Records, WritesByNumber, find, find_near};
 use doc_register::Reply;
 use events::Rec;
 use std::alloc::Global;
@@ -8,11 +6,11 @@ use version_pair::{NoMemory, Pair};
 use write_chain::sort_nearly_ordered;
 
 /// A pair that some write must have.
-#[derive(Clone, Copy)]
-pub struct KnownPair {
+#[derive_where(Clone, Copy)]
+pub struct KnownPair<D: Count> {
     pub pair: Pair,
     /// The answered write that has it.
-    pub writer: Option<usize>,
+    pub writer: Option<No<D>>,
     /// The number that it was written with, if that is known.
     pub number: Option<u64>,
     /// How many writes may be inserted before it.
@@ -23,8 +21,8 @@ pub struct KnownPair {
 /// conditions or gets name, and those that unanswered writes which must be performed ask for. Also the pairs
 /// that other conditions name.
 #[derive(Drop)]
-pub struct KnownPairs {
-    pub entries: Vec<KnownPair>,
+pub struct KnownPairs<D: Count> {
+    pub entries: Vec<KnownPair<D>>,
     /// The pairs that conditions name and that no write is known to have, rising.
     pub named: Vec<Pair>,
 }
@@ -41,14 +39,14 @@ enum ShownBy {
 }
 
 // A pair that a record shows.
-#[derive(Clone, Copy, PartialEq, Eq, PartialOrd, Ord)]
-struct ShownPair {
+#[derive_where(Clone, Copy, PartialEq, Eq, PartialOrd, Ord)]
+struct ShownPair<D: Count> {
     pair: Pair,
-    rec: usize,
+    rec: No<D>,
     by: ShownBy,
 }
 
-impl HasPair for KnownPair {
+impl<D: Count> HasPair for KnownPair<D> {
     fn pair(&self) -> Pair {
         self.pair
     }
@@ -68,9 +66,9 @@ impl ShownBy {
 }
 
 // Adds a pair that the record shows.
-fn note_pair(
-    shown: &mut Vec<ShownPair>,
-    rec: usize,
+fn note_pair<D: Count>(
+    shown: &mut Vec<ShownPair<D>>,
+    rec: No<D>,
     found: Rec,
     pair: Pair,
 ) -> Result<(), NoMemory> {
@@ -83,7 +81,11 @@ fn note_pair(
 }
 
 // Adds the pairs that the record makes known.
-fn note_pairs(shown: &mut Vec<ShownPair>, rec: usize, found: Rec) -> Result<(), NoMemory> {
+fn note_pairs<D: Count>(
+    shown: &mut Vec<ShownPair<D>>,
+    rec: No<D>,
+    found: Rec,
+) -> Result<(), NoMemory> {
     if let Some(pair) = found.pair_taken() {
         note_pair(shown, rec, found, pair)?;
         if let Some(named) = found.op.condition() {
@@ -96,10 +98,10 @@ fn note_pairs(shown: &mut Vec<ShownPair>, rec: usize, found: Rec) -> Result<(), 
     Ok(())
 }
 
-impl KnownPair {
+impl<D: Count> KnownPair<D> {
     // Adds what a record shows of the pair. Returns `false` if it contradicts the others: another write has
     // the pair, or it has another number, or none.
-    fn note(&mut self, shown: ShownPair) -> bool {
+    fn note(&mut self, shown: ShownPair<D>) -> bool {
         match shown.by {
             ShownBy::Write(number) => {
                 if self.writer.is_some() || self.number.is_some() && self.number != number {
@@ -120,7 +122,7 @@ impl KnownPair {
     }
 
     /// Returns the only write that can have the pair, if no answered write has it.
-    pub fn only_writer(&self, numbers: &WritesByNumber) -> Option<usize> {
+    pub fn only_writer(&self, numbers: &WritesByNumber<D>) -> Option<No<D>> {
         match self.writer {
             Some(_) => None,
             None => numbers.only(self.number?),
@@ -128,27 +130,28 @@ impl KnownPair {
     }
 
     // The pair that the only unanswered write asks for that can have this one, and that write.
-    fn asked(&self, records: &[Rec], numbers: &WritesByNumber) -> Option<ShownPair> {
+    fn asked(&self, records: Records<'_, D>, numbers: &WritesByNumber<D>) -> Option<ShownPair<D>> {
         let rec = self.only_writer(numbers)?;
         Some(ShownPair {
-            pair: record(records, rec)?.op.condition()?,
+            pair: records.of(rec).op.condition()?,
             rec,
             by: ShownBy::Condition,
         })
     }
 }
 
-impl KnownPairs {
+impl<D: Count> KnownPairs<D> {
     /// Returns the known pairs of a document. Returns `None` if two writes or gets contradict each other:
     /// they show two writes with one pair, or two numbers, or a deleted document that is found.
     pub fn of(
         alloc: Global,
-        records: &[Rec],
-        numbers: &WritesByNumber,
-    ) -> Result<Option<KnownPairs>, NoMemory> {
+        records: Records<'_, D>,
+        numbers: &WritesByNumber<D>,
+    ) -> Result<Option<KnownPairs<D>>, NoMemory> {
         let mut shown = Vec::with_capacity(alloc, records.len())?;
-        for rec in 0..records.len() {
-            note_pairs(&mut shown, rec, records[rec])?;
+        for index in 0..records.len() {
+            let rec = No::new(index);
+            note_pairs(&mut shown, rec, records.of(rec))?;
         }
         sort_nearly_ordered(&mut shown);
         let Some(known) = KnownPairs::of_shown(alloc, records, &shown)? else {
@@ -166,9 +169,9 @@ impl KnownPairs {
     // contradict each other.
     fn of_shown(
         alloc: Global,
-        records: &[Rec],
-        shown: &[ShownPair],
-    ) -> Result<Option<KnownPairs>, NoMemory> {
+        records: Records<'_, D>,
+        shown: &[ShownPair<D>],
+    ) -> Result<Option<KnownPairs<D>>, NoMemory> {
         let mut known = KnownPairs {
             entries: Vec::with_capacity(alloc, shown.len())?,
             named: Vec::new(alloc),
@@ -184,7 +187,7 @@ impl KnownPairs {
 
     // Adds what a record shows of a pair, after all that is shown of lesser pairs. Returns `false` if records
     // contradict each other.
-    fn note(&mut self, shown: ShownPair) -> Result<bool, NoMemory> {
+    fn note(&mut self, shown: ShownPair<D>) -> Result<bool, NoMemory> {
         if let Some(last) = self.entries.last_mut() {
             if last.pair == shown.pair {
                 return Ok(last.note(shown));
@@ -205,9 +208,9 @@ impl KnownPairs {
     // with the number of a known pair that no answered write has. Returns whether one was added.
     fn note_asked(
         &self,
-        shown: &mut Vec<ShownPair>,
-        records: &[Rec],
-        numbers: &WritesByNumber,
+        shown: &mut Vec<ShownPair<D>>,
+        records: Records<'_, D>,
+        numbers: &WritesByNumber<D>,
     ) -> Result<bool, NoMemory> {
         let mut is_new = false;
         for entry in &self.entries {
@@ -222,9 +225,9 @@ impl KnownPairs {
     }
 
     // Adds the pairs that conditions name and no write is known to have.
-    fn note_named(&mut self, records: &[Rec]) -> Result<(), NoMemory> {
+    fn note_named(&mut self, records: Records<'_, D>) -> Result<(), NoMemory> {
         let mut near = 0;
-        for found in records {
+        for found in records.all() {
             if let Some(pair) = found.op.condition() {
                 if self.place_near(pair, &mut near).is_none() {
                     self.named.push(pair)?;
@@ -237,9 +240,7 @@ impl KnownPairs {
     }
 
     /// Returns the known pair at an index of their order; `None` after the last one.
-    pub fn entry(&self, at: usize) -> Option<KnownPair>
-        ensures { IfSome result (λ _. at < 2 ^ 63) }
-    {
+    pub fn entry(&self, at: usize) -> Option<KnownPair<D>> {
         self.entries.get(at).copied()
     }
 

@@ -3,10 +3,9 @@ use crate::known::KnownPair;
 use crate::state::Document;
 use crate::wait_kind::WaitKind;
 use crate::walk::{ForwardWalk, Placed};
-use completing::{Timed, earlier, leaves_it, needs};
+use completing::{Count, No, Timed, earlier, leaves_it, needs};
 use doc_register::Conflicts;
 use events::Rec;
-use version_pair::Pair;
 
 /// What is tried next at a point of the search.
 #[derive(Clone, Copy)]
@@ -31,10 +30,32 @@ pub enum NextTry {
     Done,
 }
 
+// A write that is tried, and what is tried after it.
+#[derive_where(Clone, Copy)]
+struct Attempt<D: Count> {
+    write: Placed<D>,
+    next: NextTry,
+}
+
+impl NextTry {
+    // What is tried when this has no write left.
+    fn otherwise(self) -> NextTry {
+        match self {
+            NextTry::Next(_) => NextTry::Delete,
+            NextTry::Delete => NextTry::Index,
+            NextTry::Index => NextTry::Conflict(None),
+            NextTry::Conflict(_) => NextTry::Turned(0),
+            NextTry::Turned(_) => NextTry::Asked(0),
+            NextTry::Asked(_) => NextTry::AskedRefused(0),
+            NextTry::AskedRefused(_) | NextTry::Done => NextTry::Done,
+        }
+    }
+}
+
 // A record that is tried, and up to which index all were when it was: that of its call or reply.
-#[derive(Clone, Copy)]
-struct Tried {
-    rec: usize,
+#[derive_where(Clone, Copy)]
+struct Tried<D: Count> {
+    rec: No<D>,
     last: usize,
 }
 
@@ -42,7 +63,7 @@ struct Tried {
 const MOST_WAITING: usize = 64;
 
 // Whether the state of the document before the write is what the write needs.
-fn fits(walk: &ForwardWalk, found: Rec) -> bool {
+fn fits<D: Count>(walk: &ForwardWalk<'_, D>, found: Rec) -> bool {
     let document = walk.state.document;
     let needed = needs(found);
     if needed.is_some() && needed != Some(document.is_live()) {
@@ -50,10 +71,8 @@ fn fits(walk: &ForwardWalk, found: Rec) -> bool {
     }
     match found.op.condition() {
         Some(pair) => match document {
-            Document::Known(at) => match walk.known.entry(at) {
-                Some(present) => present.pair == pair,
-                None => false,
-            },
+            // (The document's pair was taken last.)
+            Document::Known(_) => walk.state.last == Some(pair),
             Document::Invented(Some(at)) => walk.known.named_place(pair) == Some(at),
             Document::Invented(None) | Document::Absent => false,
         },
@@ -62,8 +81,8 @@ fn fits(walk: &ForwardWalk, found: Rec) -> bool {
 }
 
 // The write with the next known pair, if it may be placed and fits.
-fn fitting(walk: &ForwardWalk, rec: usize) -> Option<usize> {
-    let found = walk.record(rec)?;
+fn fitting<D: Count>(walk: &ForwardWalk<'_, D>, rec: No<D>) -> Option<No<D>> {
+    let found = walk.records.of(rec);
     if walk.may_be_placed(rec) && fits(walk, found) {
         Some(rec)
     } else {
@@ -73,7 +92,11 @@ fn fitting(walk: &ForwardWalk, rec: usize) -> Option<usize> {
 
 // The first of the writes of the number, called after an index if one is given, that may have the next known
 // pair.
-fn first_of_number(walk: &ForwardWalk, number: u64, last: Option<usize>) -> Option<Tried> {
+fn first_of_number<D: Count>(
+    walk: &ForwardWalk<'_, D>,
+    number: u64,
+    last: Option<usize>,
+) -> Option<Tried<D>> {
     for entry in walk.numbers.waiting(number, last).iter().take(MOST_WAITING) {
         if fitting(walk, entry.rec).is_some() {
             return Some(Tried {
@@ -113,7 +136,7 @@ fn conflict_on_present(document: Document) -> Option<WaitKind> {
 }
 
 // The unanswered delete that would be performed, one under the condition of the present pair first.
-fn lost_delete(walk: &mut ForwardWalk) -> Option<usize> {
+fn lost_delete<D: Count>(walk: &mut ForwardWalk<'_, D>) -> Option<No<D>> {
     if let Some(kind) = delete_on_present(walk.state.document) {
         if let Some(rec) = walk.first(kind) {
             return Some(rec);
@@ -124,7 +147,7 @@ fn lost_delete(walk: &mut ForwardWalk) -> Option<usize> {
 
 // The unanswered write of the document that would be performed, one under the condition of the present pair
 // first.
-fn lost_index(walk: &mut ForwardWalk) -> Option<usize> {
+fn lost_index<D: Count>(walk: &mut ForwardWalk<'_, D>) -> Option<No<D>> {
     if let Some(kind) = index_on_present(walk.state.document) {
         if let Some(rec) = walk.first(kind) {
             return Some(rec);
@@ -140,13 +163,13 @@ fn lost_index(walk: &mut ForwardWalk) -> Option<usize> {
 
 // The first, in response order, of the conflicts of a kind that may be placed, with a reply after an index if
 // one is given.
-fn first_conflict(
-    walk: &ForwardWalk,
+fn first_conflict<D: Count>(
+    walk: &ForwardWalk<'_, D>,
     kind: WaitKind,
     last: Option<usize>,
     deletes: bool,
-) -> Option<Timed> {
-    let mut first: Option<Timed> = None;
+) -> Option<Timed<D>> {
+    let mut first: Option<Timed<D>> = None;
     for waiting in walk.waiting(kind).iter().take(MOST_WAITING) {
         if let Some(reply_at) = performable(walk, waiting.rec, last, deletes) {
             let is_first = match first {
@@ -165,13 +188,13 @@ fn first_conflict(
 }
 
 // The index of the reply of a conflict that may be placed.
-fn performable(
-    walk: &ForwardWalk,
-    rec: usize,
+fn performable<D: Count>(
+    walk: &ForwardWalk<'_, D>,
+    rec: No<D>,
     last: Option<usize>,
     deletes: bool,
 ) -> Option<usize> {
-    let found = walk.record(rec)?;
+    let found = walk.records.of(rec);
     let (reply_at, _) = found.heard?;
     let is_kind = deletes || leaves_it(found.op);
     if last < Some(reply_at) && is_kind && walk.may_be_placed(rec) {
@@ -183,7 +206,11 @@ fn performable(
 
 // The first, in response order, of the conflicts that would be performed, with a reply after an index if one
 // is given.
-fn conflict(walk: &mut ForwardWalk, last: Option<usize>, deletes: bool) -> Option<Timed> {
+fn conflict<D: Count>(
+    walk: &mut ForwardWalk<'_, D>,
+    last: Option<usize>,
+    deletes: bool,
+) -> Option<Timed<D>> {
     if walk.conflicts == Conflicts::Plain {
         return None;
     }
@@ -200,7 +227,10 @@ fn conflict(walk: &mut ForwardWalk, last: Option<usize>, deletes: bool) -> Optio
 
 // The writes that can have the next known pair, if only a condition names it: one unanswered write, then the
 // conflicts. (No reply has the index 0.)
-fn write_of_any_number(walk: &mut ForwardWalk, last: Option<usize>) -> Option<Tried> {
+fn write_of_any_number<D: Count>(
+    walk: &mut ForwardWalk<'_, D>,
+    last: Option<usize>,
+) -> Option<Tried<D>> {
     if last.is_none() {
         if let Some(rec) = lost_index(walk) {
             return Some(Tried { rec, last: 0 });
@@ -215,7 +245,11 @@ fn write_of_any_number(walk: &mut ForwardWalk, last: Option<usize>) -> Option<Tr
 
 // The next write that can have the known pair, which is the next one, after those up to an index if one is
 // given.
-fn next_writer_of(walk: &mut ForwardWalk, entry: KnownPair, last: Option<usize>) -> Option<Tried> {
+fn next_writer_of<D: Count>(
+    walk: &mut ForwardWalk<'_, D>,
+    entry: KnownPair<D>,
+    last: Option<usize>,
+) -> Option<Tried<D>> {
     match (entry.writer, entry.number) {
         (Some(rec), _) if last.is_none() => Some(Tried {
             rec: fitting(walk, rec)?,
@@ -232,7 +266,7 @@ fn next_writer_of(walk: &mut ForwardWalk, entry: KnownPair, last: Option<usize>)
 
 // The next write with the next known pair to try, after those up to an index if one is given; and what is
 // tried after it.
-fn next_known(walk: &mut ForwardWalk, last: Option<usize>) -> Option<(Placed, NextTry)> {
+fn next_known<D: Count>(walk: &mut ForwardWalk<'_, D>, last: Option<usize>) -> Option<Attempt<D>> {
     if !walk.state.has_inserted() {
         return None;
     }
@@ -240,31 +274,36 @@ fn next_known(walk: &mut ForwardWalk, last: Option<usize>) -> Option<(Placed, Ne
     let tried = next_writer_of(walk, entry, last)?;
     let write = Placed::Known {
         rec: tried.rec,
-        at: walk.state.passed,
         pair: entry.pair,
     };
-    Some((write, NextTry::Next(Some(tried.last))))
+    Some(Attempt {
+        write,
+        next: NextTry::Next(Some(tried.last)),
+    })
 }
 
 // The write that has the next known pair, or is the only one of its number.
-fn next_writer(walk: &ForwardWalk) -> Option<Rec> {
+fn next_writer<D: Count>(walk: &ForwardWalk<'_, D>) -> Option<Rec> {
     let entry = walk.next_known()?;
     let rec = match entry.writer {
         Some(rec) => rec,
         None => walk.numbers.only(entry.number?)?,
     };
-    walk.record(rec)
+    Some(walk.records.of(rec))
 }
 
 // The last conflict that was placed as refused and can be a write here, without the last `from` placed
 // records; and what is tried after it.
-fn last_turned(walk: &ForwardWalk, from: usize) -> Option<(Placed, NextTry)> {
+fn last_turned<D: Count>(walk: &ForwardWalk<'_, D>, from: usize) -> Option<Attempt<D>> {
     let order = walk.order.as_slice();
     for back in from..MOST_WAITING.min(order.len()) {
         let placed = order[order.len() - 1 - back];
         match placed {
             Placed::Read(rec) if walk.may_turn(rec) => {
-                return Some((Placed::Turned(rec, None), NextTry::Turned(back + 1)));
+                return Some(Attempt {
+                    write: Placed::Turned(rec, None),
+                    next: NextTry::Turned(back + 1),
+                });
             }
             _ => {}
         }
@@ -273,7 +312,7 @@ fn last_turned(walk: &ForwardWalk, from: usize) -> Option<(Placed, NextTry)> {
 }
 
 // Whether the next write needs the document to exist, or not to exist, and the opposite is the case.
-fn next_misses(walk: &ForwardWalk) -> bool {
+fn next_misses<D: Count>(walk: &ForwardWalk<'_, D>) -> bool {
     match next_writer(walk) {
         Some(found) => match needs(found) {
             Some(live) => live != walk.state.document.is_live(),
@@ -284,7 +323,7 @@ fn next_misses(walk: &ForwardWalk) -> bool {
 }
 
 // Whether an inserted delete is of any use, or an inserted write of the document.
-fn serves(walk: &mut ForwardWalk, delete: bool) -> bool {
+fn serves<D: Count>(walk: &mut ForwardWalk<'_, D>, delete: bool) -> bool {
     let document = walk.state.document;
     if let Some(kind) = conflict_on_present(document) {
         if walk.first(kind).is_some() {
@@ -303,7 +342,7 @@ fn serves(walk: &mut ForwardWalk, delete: bool) -> bool {
 }
 
 // Whether an unanswered create, which needs the document to be absent, can have the next known pair.
-fn next_may_create(walk: &mut ForwardWalk) -> bool {
+fn next_may_create<D: Count>(walk: &mut ForwardWalk<'_, D>) -> bool {
     match walk.next_known() {
         Some(
             KnownPair {
@@ -327,12 +366,11 @@ fn next_may_create(walk: &mut ForwardWalk) -> bool {
 }
 
 // Whether a create of the number may be placed.
-fn has_create(walk: &ForwardWalk, number: u64) -> bool {
+fn has_create<D: Count>(walk: &ForwardWalk<'_, D>, number: u64) -> bool {
     for waiting in walk.numbers.waiting(number, None).iter().take(MOST_WAITING) {
-        if let Some(found) = walk.record(waiting.rec) {
-            if needs(found) == Some(false) && walk.may_be_placed(waiting.rec) {
-                return true;
-            }
+        let found = walk.records.of(waiting.rec);
+        if needs(found) == Some(false) && walk.may_be_placed(waiting.rec) {
+            return true;
         }
     }
     false
@@ -340,7 +378,7 @@ fn has_create(walk: &ForwardWalk, number: u64) -> bool {
 
 // Whether a write may be inserted before the next known pair: there is a number for it, and the next write
 // does not ask for exactly the pair that is present.
-fn may_insert(walk: &ForwardWalk) -> bool {
+fn may_insert<D: Count>(walk: &ForwardWalk<'_, D>) -> bool {
     if walk.room() == 0 || walk.state.budget_left() == 0 {
         return false;
     }
@@ -351,7 +389,7 @@ fn may_insert(walk: &ForwardWalk) -> bool {
 }
 
 // An unanswered write to insert, a delete or a write of the document.
-fn write_to_insert(walk: &mut ForwardWalk, delete: bool) -> Option<usize> {
+fn write_to_insert<D: Count>(walk: &mut ForwardWalk<'_, D>, delete: bool) -> Option<No<D>> {
     if !may_insert(walk) || !serves(walk, delete) {
         return None;
     }
@@ -363,7 +401,7 @@ fn write_to_insert(walk: &mut ForwardWalk, delete: bool) -> Option<usize> {
 }
 
 // A conflict that was placed as refused, to be performed here, and what is tried after it.
-fn turn_back(walk: &mut ForwardWalk, from: usize) -> Option<(Placed, NextTry)> {
+fn turn_back<D: Count>(walk: &mut ForwardWalk<'_, D>, from: usize) -> Option<Attempt<D>> {
     let is_live = walk.state.document.is_live();
     if walk.conflicts == Conflicts::Maybe && may_insert(walk) && serves(walk, is_live) {
         last_turned(walk, from)
@@ -374,7 +412,7 @@ fn turn_back(walk: &mut ForwardWalk, from: usize) -> Option<(Placed, NextTry)> {
 
 // Whether a delete whose reply is a conflict under the condition of the named pair may have been performed
 // there or later.
-fn has_refused_delete(walk: &ForwardWalk, at: usize) -> bool {
+fn has_refused_delete<D: Count>(walk: &ForwardWalk<'_, D>, at: usize) -> bool {
     if walk.conflicts == Conflicts::Plain {
         return false;
     }
@@ -390,13 +428,13 @@ fn has_refused_delete(walk: &ForwardWalk, at: usize) -> bool {
 
 // Whether a delete under the condition of the named pair may be performed there or later: an unanswered one,
 // or under Maybe one whose reply is a conflict.
-fn has_delete(walk: &mut ForwardWalk, at: usize) -> bool {
+fn has_delete<D: Count>(walk: &mut ForwardWalk<'_, D>, at: usize) -> bool {
     walk.is_left(WaitKind::LostDeleteOnNamed(at)) || has_refused_delete(walk, at)
 }
 
 // The named pair that a write of the document may take so that a delete which asks for it can be performed
 // after it, from an index among these pairs on.
-fn pair_for_delete(walk: &mut ForwardWalk, from: usize) -> Option<NamedPair> {
+fn pair_for_delete<D: Count>(walk: &mut ForwardWalk<'_, D>, from: usize) -> Option<NamedPair> {
     let is_asked = walk.state.document.is_live()
         && may_insert(walk)
         && walk.state.budget_left() > 1
@@ -416,72 +454,73 @@ fn pair_for_delete(walk: &mut ForwardWalk, from: usize) -> Option<NamedPair> {
 }
 
 // An unanswered write of the document, or one whose reply is a conflict, that takes a pair which a delete
-// asks for; and the index of the next named pair.
-fn asked(walk: &mut ForwardWalk, from: usize, is_refused: bool) -> Option<(Placed, usize)> {
+// asks for; and what is tried after it.
+fn asked<D: Count>(
+    walk: &mut ForwardWalk<'_, D>,
+    from: usize,
+    is_refused: bool,
+) -> Option<Attempt<D>> {
     let named = pair_for_delete(walk, from)?;
     let rec = if is_refused {
         conflict(walk, None, false)?.rec
     } else {
         lost_index(walk)?
     };
-    Some((Placed::Inserted(rec, Some(named.pair)), named.next))
+    Some(Attempt {
+        write: Placed::Inserted(rec, Some(named.pair)),
+        next: if is_refused {
+            NextTry::AskedRefused(named.next)
+        } else {
+            NextTry::Asked(named.next)
+        },
+    })
 }
 
-// The record as an inserted write, whose pair isn't chosen yet.
-fn inserted(rec: Option<usize>) -> Option<Placed> {
-    Some(Placed::Inserted(rec?, None))
+// The record as an inserted write, whose pair isn't chosen yet; and what is tried after it.
+fn inserted<D: Count>(rec: No<D>, next: NextTry) -> Attempt<D> {
+    Attempt {
+        write: Placed::Inserted(rec, None),
+        next,
+    }
 }
 
-// What is tried next, if it is a write; and what is tried after it.
-fn write_at_turn(walk: &mut ForwardWalk, turn: NextTry) -> (Option<Placed>, NextTry) {
+// The write that is tried at a turn, if there is one; and what is tried after it.
+fn attempt_at<D: Count>(walk: &mut ForwardWalk<'_, D>, turn: NextTry) -> Option<Attempt<D>> {
     match turn {
-        NextTry::Next(last) => match next_known(walk, last) {
-            Some((write, next)) => (Some(write), next),
-            None => (None, NextTry::Delete),
-        },
-        NextTry::Delete => (inserted(write_to_insert(walk, true)), NextTry::Index),
-        NextTry::Index => (
-            inserted(write_to_insert(walk, false)),
-            NextTry::Conflict(None),
-        ),
+        NextTry::Next(last) => next_known(walk, last),
+        NextTry::Delete => Some(inserted(write_to_insert(walk, true)?, turn.otherwise())),
+        NextTry::Index => Some(inserted(write_to_insert(walk, false)?, turn.otherwise())),
         NextTry::Conflict(last) => match conflict(walk, last, true) {
-            Some(refused) if may_insert(walk) => (
-                inserted(Some(refused.rec)),
-                NextTry::Conflict(Some(refused.at)),
-            ),
-            _ => (None, NextTry::Turned(0)),
+            Some(refused) if may_insert(walk) => {
+                Some(inserted(refused.rec, NextTry::Conflict(Some(refused.at))))
+            }
+            _ => None,
         },
-        NextTry::Turned(from) => match turn_back(walk, from) {
-            Some((write, next)) => (Some(write), next),
-            None => (None, NextTry::Asked(0)),
-        },
-        NextTry::Asked(from) => match asked(walk, from, false) {
-            Some((write, next)) => (Some(write), NextTry::Asked(next)),
-            None => (None, NextTry::AskedRefused(0)),
-        },
-        NextTry::AskedRefused(from) => match asked(walk, from, true) {
-            Some((write, next)) => (Some(write), NextTry::AskedRefused(next)),
-            None => (None, NextTry::Done),
-        },
-        NextTry::Done => (None, NextTry::Done),
+        NextTry::Turned(from) => turn_back(walk, from),
+        NextTry::Asked(from) => asked(walk, from, false),
+        NextTry::AskedRefused(from) => asked(walk, from, true),
+        NextTry::Done => None,
     }
 }
 
 /// Returns the next write to try at a point, if one is left, and advances the turn.
-pub fn next_write(walk: &mut ForwardWalk, turn: &mut NextTry) -> Option<Placed> {
+pub fn next_write<D: Count>(
+    walk: &mut ForwardWalk<'_, D>,
+    turn: &mut NextTry,
+) -> Option<Placed<D>> {
     for _ in 0..7 {
-        let (write, next) = write_at_turn(walk, *turn);
-        *turn = next;
-        if write.is_some() {
-            return write;
+        if let Some(made) = attempt_at(walk, *turn) {
+            *turn = made.next;
+            return Some(made.write);
         }
+        *turn = turn.otherwise();
     }
     None
 }
 
 /// Returns whether the point cannot lead anywhere: a get found the present pair and can't be placed, or the
 /// next write is under the condition of a pair that is gone.
-pub fn is_dead_end(walk: &mut ForwardWalk) -> bool {
+pub fn is_dead_end<D: Count>(walk: &mut ForwardWalk<'_, D>) -> bool {
     if let Document::Known(at) = walk.state.document {
         if walk.is_left(WaitKind::Found(at)) {
             return true;

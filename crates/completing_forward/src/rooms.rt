@@ -1,6 +1,6 @@
 use crate::known::KnownPairs;
 use crate::limit::{Limit, most_before};
-use completing::{Free, PairRange};
+use completing::{Count, Free, PairRange};
 use version_pair::Pair;
 
 // The number of free numbers between two known pairs. Before a greater term there is no end of them.
@@ -12,7 +12,7 @@ fn free_between(free: Free<'_>, last: Option<Pair>, next: Pair) -> u64 {
 }
 
 /// Sets how many writes may be inserted before each known pair, within the limits.
-pub fn set_rooms(known: &mut KnownPairs, free: Free<'_>, limits: &[Limit]) {
+pub fn set_rooms<D: Count>(known: &mut KnownPairs<D>, free: Free<'_>, limits: &[Limit]) {
     let mut last = None;
     for entry in &mut known.entries {
         let room = free_between(free, last, entry.pair);

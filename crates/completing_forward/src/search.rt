@@ -1,13 +1,16 @@
+ghost use Rattle.std.specs.Prelude.{◌≡◌, length};
+
 use crate::failed::Failed;
 use crate::limit::Limit;
 use crate::moves::{NextTry, is_dead_end, next_write};
 use crate::state::SearchState;
 use crate::walk::{ForwardWalk, Placed};
-use completing::{Chain, ChainWrite, PerRecord, places_with_pairs};
+use completing::{Chain, ChainWrite, Count, Records, Table, places_with_pairs};
 use doc_register::Conflicts;
 use events::{Rec, Seen};
 use places::Place;
 use std::alloc::Global;
+use std::marker::Brand;
 use version_pair::{NoMemory, Pair};
 
 // A point that the walk reached, and what is tried there next.
@@ -32,31 +35,31 @@ enum StepOutcome {
 
 // A search, and the points to which it may come back.
 #[derive(Drop)]
-struct Search<'a> {
-    walk: ForwardWalk<'a>,
+struct Search<'a, D: Count> {
+    walk: ForwardWalk<'a, D>,
     choices: Vec<Choice>,
     failed: Failed,
     // The latest of the replies that were the first left at some point.
     furthest: Option<usize>,
 }
 
-impl Search<'_> {
+impl<D: Count> Search<'_, D> {
     // The search before its first step; `None` if the records contradict each other.
     fn of<'a>(
         alloc: Global,
-        records: &'a [Rec],
+        records: Records<'a, D>,
         conflicts: Conflicts,
         used: &'a [Pair],
         limits: &[Limit],
-    ) -> Result<Option<Search<'a>>, NoMemory> {
-        let steps = most_steps(records, limits);
+    ) -> Result<Option<Search<'a, D>>, NoMemory> {
+        let steps = most_steps(records.all(), limits);
         let Some(walk) = ForwardWalk::of(alloc, records, conflicts, used, limits, steps)? else {
             return Ok(None);
         };
         Ok(Some(Search {
             walk,
             choices: Vec::with_capacity(alloc, records.len())?,
-            failed: Failed::of(alloc, records)?,
+            failed: Failed::of(alloc, records.all())?,
             furthest: None,
         }))
     }
@@ -68,11 +71,12 @@ impl Search<'_> {
         if self.failed.has(self.walk.state.key()) || is_dead_end(&mut self.walk) {
             self.go_back();
         } else {
-            self.choices.push(Choice {
+            let choice = Choice {
                 state: self.walk.state,
                 placed: self.walk.order.len(),
                 next: NextTry::Next(None),
-            })?;
+            };
+            self.choices.push(choice)?;
         }
         Ok(())
     }
@@ -136,7 +140,7 @@ impl Search<'_> {
 
     // The chain of the order that was found. (The points to which the search could have come back are given up
     // before it is made.)
-    fn into_chain(self, alloc: Global) -> Result<Chain, NoMemory> {
+    fn into_chain(self, alloc: Global) -> Result<Chain<D>, NoMemory> {
         let Search { walk, choices, .. } = self;
         drop(choices);
         chain_of(alloc, &walk)
@@ -144,13 +148,13 @@ impl Search<'_> {
 }
 
 // The chain of the walk.
-fn chain_of(alloc: Global, walk: &ForwardWalk) -> Result<Chain, NoMemory> {
+fn chain_of<D: Count>(alloc: Global, walk: &ForwardWalk<'_, D>) -> Result<Chain<D>, NoMemory> {
     let mut writes = Vec::new(alloc);
-    let mut stretches = PerRecord::new(alloc, walk.records, None)?;
+    let mut stretches = Table::new(alloc, walk.records.len(), None)?;
     for placed in &walk.order {
         match *placed {
             Placed::Read(rec) => stretches.set(rec, Some(writes.len())),
-            Placed::Known { rec, pair, .. } => writes.push(ChainWrite {
+            Placed::Known { rec, pair } => writes.push(ChainWrite {
                 pair: Some(pair),
                 rec,
             })?,
@@ -198,6 +202,21 @@ pub fn search_forward(
     used: &[Pair],
     limits: &[Limit],
 ) -> Result<ForwardSearch, NoMemory> {
+    search_counted::<Brand>(alloc, records, seen, conflicts, used, limits)
+}
+
+// The same. `D` counts the records.
+fn search_counted<D: Count>(
+    alloc: Global,
+    records: &[Rec],
+    seen: Seen,
+    conflicts: Conflicts,
+    used: &[Pair],
+    limits: &[Limit],
+) -> Result<ForwardSearch, NoMemory>
+    requires { length records.now ≡ D.number }
+{
+    let records = Records::<D>::new(records);
     let Some(mut search) = Search::of(alloc, records, conflicts, used, limits)? else {
         return Ok(ForwardSearch::Stuck(None));
     };

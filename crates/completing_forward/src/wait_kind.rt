@@ -1,7 +1,7 @@
 ghost use Rattle.std.specs.Prelude.{◌<◌, ◌^◌, IfSome};
 
 use crate::known::KnownPairs;
-use completing::{LineOf, Lines, PerRecord, WritesByNumber};
+use completing::{Count, Lines, No, Records, Table, Timed, WritesByNumber};
 use doc_register::{Op, Reply};
 use events::Rec;
 use std::alloc::Global;
@@ -103,8 +103,9 @@ impl WaitKind {
     }
 }
 
-// The kind of an unanswered record. Its pair is searched for near an index of the known ones.
-fn lost_kind(op: Op, known: &KnownPairs, near: &mut usize) -> Option<WaitKind> {
+// The kind of an unanswered record. Its pair is searched for near an index of the known ones. (A pair of a condition
+// or of a get is known, or else is among the named ones.)
+fn lost_kind<D: Count>(op: Op, known: &KnownPairs<D>, near: &mut usize) -> Option<WaitKind> {
     match op {
         Op::Get => None,
         Op::Create { .. } => Some(WaitKind::LostCreate),
@@ -125,7 +126,7 @@ fn lost_kind(op: Op, known: &KnownPairs, near: &mut usize) -> Option<WaitKind> {
 }
 
 // The kind of a conflict under the condition of a pair.
-fn kind_on(pair: Pair, known: &KnownPairs, near: &mut usize) -> Option<WaitKind> {
+fn kind_on<D: Count>(pair: Pair, known: &KnownPairs<D>, near: &mut usize) -> Option<WaitKind> {
     match known.place_near(pair, near) {
         Some(at) => Some(WaitKind::ConflictOn(at)),
         None => Some(WaitKind::ConflictOnNamed(known.named_place(pair)?)),
@@ -133,7 +134,7 @@ fn kind_on(pair: Pair, known: &KnownPairs, near: &mut usize) -> Option<WaitKind>
 }
 
 // The kind of a conflict.
-fn conflict_kind(op: Op, known: &KnownPairs, near: &mut usize) -> Option<WaitKind> {
+fn conflict_kind<D: Count>(op: Op, known: &KnownPairs<D>, near: &mut usize) -> Option<WaitKind> {
     match op {
         Op::Get => None,
         Op::Create { .. } => Some(WaitKind::CreateConflict),
@@ -145,7 +146,7 @@ fn conflict_kind(op: Op, known: &KnownPairs, near: &mut usize) -> Option<WaitKin
 }
 
 // The kind of a record. A performed answered write has none: its pair determines its place.
-fn kind_of(found: Rec, known: &KnownPairs, near: &mut usize) -> Option<WaitKind> {
+fn kind_of<D: Count>(found: Rec, known: &KnownPairs<D>, near: &mut usize) -> Option<WaitKind> {
     match found.heard {
         None => lost_kind(found.op, known, near),
         Some((_, Reply::Missing)) => Some(WaitKind::Missing),
@@ -157,49 +158,56 @@ fn kind_of(found: Rec, known: &KnownPairs, near: &mut usize) -> Option<WaitKind>
     }
 }
 
-// The line of each record: that of its kind.
-#[derive(Drop)]
-struct KindLines<'a> {
-    kinds: &'a PerRecord<Option<WaitKind>>,
-    // The number of known pairs.
-    known: usize,
-}
-
-impl LineOf for KindLines<'_> {
-    fn line_of(&self, rec: usize) -> Option<usize> {
-        self.kinds.of(rec)?.line(self.known)
-    }
+// A record, with the line that it is in.
+#[derive_where(Clone, Copy, PartialEq, Eq, PartialOrd, Ord)]
+struct LineEntry<D: Count> {
+    line: usize,
+    rec: No<D>,
 }
 
 /// Returns a line of records for each kind, each in the order of calls. A record without a kind is in none.
-pub fn lines_of_kinds(
+pub fn lines_of_kinds<D: Count>(
     alloc: Global,
-    records: &[Rec],
-    known: &KnownPairs,
-    kinds: &PerRecord<Option<WaitKind>>,
-) -> Result<Lines, NoMemory> {
-    let by = KindLines {
-        kinds,
-        known: known.entries.len(),
-    };
+    records: Records<'_, D>,
+    known: &KnownPairs<D>,
+    kinds: &Table<D, Option<WaitKind>>,
+) -> Result<Lines<D>, NoMemory> {
+    let mut entries = Vec::with_capacity(alloc, records.len())?;
+    for index in 0..records.len() {
+        let rec = No::new(index);
+        let line = kinds
+            .of(rec)
+            .and_then(|kind| kind.line(known.entries.len()));
+        if let Some(line) = line {
+            entries.push(LineEntry { line, rec })?;
+        }
+    }
+    entries.sort_unstable();
     // (If there were too many to be counted, the memory for them would be refused.)
     let last = WaitKind::ConflictOnNamed(known.named.len());
-    let count = last.line(by.known).unwrap_or(usize::MAX);
-    Lines::of(alloc, records, &by, count)
+    let count = last.line(known.entries.len()).unwrap_or(usize::MAX);
+    let mut lines = Lines::with_room(alloc, count, entries.len())?;
+    for entry in &entries {
+        let at = records.of(entry.rec).call_at;
+        let rec = entry.rec;
+        lines.push(entry.line, Timed { at, rec })?;
+    }
+    Ok(lines)
 }
 
 /// Returns the kinds of the records. If a pair is known by its number alone, and only one write can have it,
 /// the write is kept for it and has no kind.
-pub fn kinds_of(
+pub fn kinds_of<D: Count>(
     alloc: Global,
-    records: &[Rec],
-    known: &KnownPairs,
-    numbers: &WritesByNumber,
-) -> Result<PerRecord<Option<WaitKind>>, NoMemory> {
-    let mut kinds = PerRecord::new(alloc, records, None)?;
+    records: Records<'_, D>,
+    known: &KnownPairs<D>,
+    numbers: &WritesByNumber<D>,
+) -> Result<Table<D, Option<WaitKind>>, NoMemory> {
+    let mut kinds = Table::new(alloc, records.len(), None)?;
     let mut near = 0;
-    for rec in 0..records.len() {
-        kinds.set(rec, kind_of(records[rec], known, &mut near));
+    for index in 0..records.len() {
+        let rec = No::new(index);
+        kinds.set(rec, kind_of(records.of(rec), known, &mut near));
     }
     for entry in &known.entries {
         if let Some(rec) = entry.only_writer(numbers) {

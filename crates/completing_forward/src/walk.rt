@@ -1,10 +1,13 @@
+ghost use Rattle.std.specs.Prelude.{◌<◌, All};
+
 use crate::known::{KnownPair, KnownPairs};
 use crate::limit::Limit;
 use crate::rooms::set_rooms;
 use crate::state::{Document, SearchState, mark_of, mix};
 use crate::wait_kind::{WaitKind, kinds_of, lines_of_kinds};
 use completing::{
-    ConflictOrder, Free, Lines, PerRecord, Timed, WritesByNumber, leaves_it, number_of, record,
+    ConflictOrder, Count, Free, Lines, No, Records, Table, Timed, WritesByNumber, leaves_it,
+    number_of,
 };
 use doc_register::{Conflicts, Op};
 use events::Rec;
@@ -13,21 +16,21 @@ use version_pair::{NoMemory, Pair};
 use write_chain::{AnsweredRec, answers_of};
 
 /// A record that was placed.
-#[derive(Clone, Copy)]
-pub enum Placed {
+#[derive_where(Clone, Copy)]
+pub enum Placed<D: Count> {
     /// It is a read, or is refused.
-    Read(usize),
-    /// A write with a known pair, given with its index.
-    Known { rec: usize, at: usize, pair: Pair },
+    Read(No<D>),
+    /// A write with the next known pair.
+    Known { rec: No<D>, pair: Pair },
     /// A write with an invented pair: the pair, if it is between two pairs of one term.
-    Inserted(usize, Option<Pair>),
+    Inserted(No<D>, Option<Pair>),
     /// Such a write, which was placed before as one that is refused.
-    Turned(usize, Option<Pair>),
+    Turned(No<D>, Option<Pair>),
 }
 
-impl Placed {
+impl<D: Count> Placed<D> {
     /// Returns the record.
-    pub fn rec(self) -> usize {
+    pub fn rec(self) -> No<D> {
         match self {
             Placed::Read(rec)
             | Placed::Known { rec, .. }
@@ -39,40 +42,42 @@ impl Placed {
 
 /// A walk forward in time over a document's records.
 #[derive(Drop)]
-pub struct ForwardWalk<'a> {
-    pub records: &'a [Rec],
+pub struct ForwardWalk<'a, D: Count> {
+    pub records: Records<'a, D>,
     pub conflicts: Conflicts,
-    pub known: KnownPairs,
-    pub numbers: WritesByNumber,
-    lines: Lines,
-    kinds: PerRecord<Option<WaitKind>>,
+    pub known: KnownPairs<D>,
+    pub numbers: WritesByNumber<D>,
+    lines: Lines<D>,
+    kinds: Table<D, Option<WaitKind>>,
     /// The pairs that no document of the shard is known to use.
     pub free: Free<'a>,
     // The answered records in response order.
     replies: Vec<AnsweredRec>,
     // The conflicts on pairs in the order of their calls.
-    conflicts_by_call: Vec<Timed>,
-    pub placed: PerRecord<bool>,
+    conflicts_by_call: Vec<Timed<D>>,
+    pub placed: Table<D, bool>,
     // The conflicts that were placed as refused and are writes after all.
-    turned: PerRecord<bool>,
-    pub order: Vec<Placed>,
+    turned: Table<D, bool>,
+    pub order: Vec<Placed<D>>,
     pub state: SearchState,
     /// How many records may still be placed, those that are taken back included.
     pub steps_left: usize,
+    ghost answered: { All (λ answer. answer.rec < D.number) replies.items },
 }
 
 // The conflicts on pairs in the order of their calls, in which the records are.
-fn conflicts_by_call(
+fn conflicts_by_call<D: Count>(
     alloc: Global,
-    records: &[Rec],
-    kinds: &PerRecord<Option<WaitKind>>,
-) -> Result<Vec<Timed>, NoMemory> {
+    records: Records<'_, D>,
+    kinds: &Table<D, Option<WaitKind>>,
+) -> Result<Vec<Timed<D>>, NoMemory> {
     let mut conflicts = Vec::new(alloc);
-    for rec in 0..records.len() {
+    for index in 0..records.len() {
+        let rec = No::new(index);
         match kinds.of(rec) {
             Some(kind) if kind.is_conflict_on_pair() => {
                 conflicts.push(Timed {
-                    at: records[rec].call_at,
+                    at: records.of(rec).call_at,
                     rec,
                 })?;
             }
@@ -82,17 +87,17 @@ fn conflicts_by_call(
     Ok(conflicts)
 }
 
-impl ForwardWalk<'_> {
+impl<D: Count> ForwardWalk<'_, D> {
     /// Returns a walk before its first step, which may place so many records, or `None` if the records
     /// contradict each other.
     pub fn of<'a>(
         alloc: Global,
-        records: &'a [Rec],
+        records: Records<'a, D>,
         conflicts: Conflicts,
         used: &'a [Pair],
         limits: &[Limit],
         steps: usize,
-    ) -> Result<Option<ForwardWalk<'a>>, NoMemory> {
+    ) -> Result<Option<ForwardWalk<'a, D>>, NoMemory> {
         let numbers = WritesByNumber::of(alloc, records, conflicts, ConflictOrder::ByCall)?;
         let Some(mut known) = KnownPairs::of(alloc, records, &numbers)? else {
             return Ok(None);
@@ -104,10 +109,10 @@ impl ForwardWalk<'_> {
             records,
             conflicts,
             lines: lines_of_kinds(alloc, records, &known, &kinds)?,
-            replies: answers_of(alloc, records)?,
+            replies: answers_of(alloc, records.all())?,
             conflicts_by_call: conflicts_by_call(alloc, records, &kinds)?,
-            placed: PerRecord::new(alloc, records, false)?,
-            turned: PerRecord::new(alloc, records, false)?,
+            placed: Table::new(alloc, records.len(), false)?,
+            turned: Table::new(alloc, records.len(), false)?,
             order: Vec::with_capacity(alloc, records.len())?,
             state: SearchState::start(),
             steps_left: steps,
@@ -118,13 +123,8 @@ impl ForwardWalk<'_> {
         }))
     }
 
-    /// Returns the record with the number.
-    pub fn record(&self, rec: usize) -> Option<Rec> {
-        record(self.records, rec)
-    }
-
     /// Returns the next known pair, if one is left.
-    pub fn next_known(&self) -> Option<KnownPair> {
+    pub fn next_known(&self) -> Option<KnownPair<D>> {
         self.known.entry(self.state.passed)
     }
 
@@ -147,11 +147,8 @@ impl ForwardWalk<'_> {
     }
 
     /// Returns whether the record is left and may be placed.
-    pub fn may_be_placed(&self, rec: usize) -> bool {
-        match self.record(rec) {
-            Some(found) => !self.placed.of(rec) && found.call_at < self.limit(),
-            None => false,
-        }
+    pub fn may_be_placed(&self, rec: No<D>) -> bool {
+        !self.placed.of(rec) && self.records.of(rec).call_at < self.limit()
     }
 
     // The line of the records of the kind.
@@ -160,7 +157,7 @@ impl ForwardWalk<'_> {
     }
 
     /// Returns the first record of the kind that may be placed.
-    pub fn first(&mut self, kind: WaitKind) -> Option<usize> {
+    pub fn first(&mut self, kind: WaitKind) -> Option<No<D>> {
         let line = self.line(kind)?;
         match self.lines.first(line, &self.placed) {
             Some(entry) if entry.at < self.limit() => Some(entry.rec),
@@ -177,7 +174,7 @@ impl ForwardWalk<'_> {
     }
 
     /// Returns the records of the kind, without some of those that were placed.
-    pub fn waiting(&self, kind: WaitKind) -> &[Timed] {
+    pub fn waiting(&self, kind: WaitKind) -> &[Timed<D>] {
         match self.line(kind) {
             Some(line) => self.lines.waiting(line),
             None => &[],
@@ -185,7 +182,7 @@ impl ForwardWalk<'_> {
     }
 
     /// Returns the records of the kind.
-    pub fn all(&self, kind: WaitKind) -> &[Timed] {
+    pub fn all(&self, kind: WaitKind) -> &[Timed<D>] {
         match self.line(kind) {
             Some(line) => self.lines.all(line),
             None => &[],
@@ -204,42 +201,47 @@ impl ForwardWalk<'_> {
         }
     }
 
-    // Passes over the replies of what is placed.
-    fn pass_replies(&mut self) {
+    // The index, in response order, of the first answered record that is left; those before `state.replies` are
+    // placed. The number of them if none is left.
+    fn first_unplaced(&self) -> usize {
         for i in self.state.replies..self.replies.len() {
-            if !self.placed.of(self.replies[i].rec) {
-                self.state.replies = i;
-                return;
+            let rec = No::new(self.replies[i].rec);
+            if !self.placed.of(rec) {
+                return i;
             }
         }
-        self.state.replies = self.replies.len();
+        self.replies.len()
+    }
+
+    // Passes over the replies of what is placed.
+    fn pass_replies(&mut self) {
+        self.state.replies = self.first_unplaced();
     }
 
     // Places a record. (If no step is left, the number of those that are stays zero.)
-    fn place(&mut self, placed: Placed) -> Result<(), NoMemory> {
+    fn place(&mut self, placed: Placed<D>) -> Result<(), NoMemory> {
         self.order.push(placed)?;
         self.set(placed, true);
         self.steps_left = self.steps_left.saturating_sub(1);
         self.state.mark ^= self.mark(placed);
-        if let Some(found) = self.record(placed.rec()) {
-            self.state.latest = self.state.latest.max(found.call_at);
-        }
+        let call_at = self.records.of(placed.rec()).call_at;
+        self.state.latest = self.state.latest.max(call_at);
         Ok(())
     }
 
     // What a placed record adds to the mark of the state. An unanswered write under the condition of a pair
     // adds nothing: it is of no use after that pair.
-    fn mark(&self, placed: Placed) -> u64 {
+    fn mark(&self, placed: Placed<D>) -> u64 {
         let rec = placed.rec();
         match (placed, self.kinds.of(rec)) {
-            (Placed::Turned(..), _) => mix(mark_of(rec)),
+            (Placed::Turned(..), _) => mix(mark_of(rec.index())),
             (_, Some(kind)) if kind.is_lost_on_pair() => 0,
-            _ => mark_of(rec),
+            _ => mark_of(rec.index()),
         }
     }
 
     // Records that a record is placed, or is not.
-    fn set(&mut self, placed: Placed, is_placed: bool) {
+    fn set(&mut self, placed: Placed<D>, is_placed: bool) {
         if let Placed::Turned(rec, _) = placed {
             self.turned.set(rec, is_placed);
         } else {
@@ -259,7 +261,7 @@ impl ForwardWalk<'_> {
     }
 
     // Whether the record is a conflict on the pair that the document has.
-    fn is_on_present(&self, rec: usize) -> bool {
+    fn is_on_present(&self, rec: No<D>) -> bool {
         match (self.kinds.of(rec), self.state.document) {
             (Some(WaitKind::ConflictOn(at)), Document::Known(present)) => at == present,
             (Some(WaitKind::ConflictOnNamed(at)), Document::Invented(present)) => {
@@ -270,7 +272,7 @@ impl ForwardWalk<'_> {
     }
 
     // The next conflict on a pair that was not met, if it is called before the index: now it is met.
-    fn meet_conflict(&mut self, limit: usize) -> Option<Timed> {
+    fn meet_conflict(&mut self, limit: usize) -> Option<Timed<D>> {
         match self
             .conflicts_by_call
             .get(self.state.conflicts_met)
@@ -334,20 +336,17 @@ impl ForwardWalk<'_> {
     }
 
     // The state of the document after the write.
-    fn after(&self, write: Placed) -> Document {
-        let leaves_it = match self.record(write.rec()) {
-            Some(found) => leaves_it(found.op),
-            None => false,
-        };
+    fn after(&self, write: Placed<D>) -> Document {
+        let leaves_it = leaves_it(self.records.of(write.rec()).op);
         match write {
-            Placed::Known { at, .. } if leaves_it => Document::Known(at),
+            Placed::Known { .. } if leaves_it => Document::Known(self.state.passed),
             Placed::Inserted(_, pair) | Placed::Turned(_, pair) if leaves_it => self.invented(pair),
             _ => Document::Absent,
         }
     }
 
     // The write with the pair that it takes, if that is between two pairs of one term.
-    fn with_pair(&self, write: Placed) -> Placed {
+    fn with_pair(&self, write: Placed<D>) -> Placed<D> {
         match write {
             Placed::Inserted(rec, None) => Placed::Inserted(rec, self.pair_to_insert()),
             Placed::Turned(rec, None) => Placed::Turned(rec, self.pair_to_insert()),
@@ -355,24 +354,22 @@ impl ForwardWalk<'_> {
         }
     }
 
-    // Passes over the known pair at the index.
-    fn pass_known(&mut self, at: usize, pair: Pair) {
-        if self.known.entry(at).is_some() {
-            self.state.passed = at + 1;
-        }
+    // Passes over the next known pair. (There are fewer than the greatest number.)
+    fn pass_known(&mut self, pair: Pair) {
+        self.state.passed = self.state.passed.saturating_add(1);
         self.state.inserted = 0;
         self.state.budget = 0;
         self.state.last = Some(pair);
     }
 
     /// Performs a write, and places what waits for the end of the pair before it.
-    pub fn perform(&mut self, write: Placed) -> Result<(), NoMemory> {
+    pub fn perform(&mut self, write: Placed<D>) -> Result<(), NoMemory> {
         let before = self.state.document;
         let write = self.with_pair(write);
         self.place(write)?;
         self.state.document = self.after(write);
         match write {
-            Placed::Known { at, pair, .. } => self.pass_known(at, pair),
+            Placed::Known { pair, .. } => self.pass_known(pair),
             Placed::Inserted(_, pair) | Placed::Turned(_, pair) => {
                 // (Budgets are below the greatest number of all.)
                 self.state.inserted = self.state.inserted.saturating_add(1);
@@ -402,10 +399,8 @@ impl ForwardWalk<'_> {
     }
 
     // Puts a record back where it waits.
-    fn put_back(&mut self, rec: usize) {
-        let Some(found) = self.record(rec) else {
-            return;
-        };
+    fn put_back(&mut self, rec: No<D>) {
+        let found = self.records.of(rec);
         let left = Timed {
             at: found.call_at,
             rec,
@@ -420,19 +415,16 @@ impl ForwardWalk<'_> {
 
     /// Returns whether the record is a conflict that was placed as one that is refused, and can be here as
     /// well.
-    pub fn can_stand(&self, rec: usize) -> bool {
-        match self.record(rec) {
-            Some(found) => match found.heard {
-                Some(heard) => !self.turned.of(rec) && self.state.latest < heard.0,
-                None => false,
-            },
+    pub fn can_stand(&self, rec: No<D>) -> bool {
+        match self.records.of(rec).heard {
+            Some(heard) => !self.turned.of(rec) && self.state.latest < heard.0,
             None => false,
         }
     }
 
     /// Returns whether it is one that can be performed on the document here: a create if the document is
     /// absent, a delete under the condition of the pair that it has.
-    pub fn may_turn(&self, rec: usize) -> bool {
+    pub fn may_turn(&self, rec: No<D>) -> bool {
         let is_performed = match self.state.document {
             Document::Absent => self.kinds.of(rec) == Some(WaitKind::CreateConflict),
             _ => self.is_on_present(rec) && self.is_delete(rec),
@@ -441,10 +433,7 @@ impl ForwardWalk<'_> {
     }
 
     /// Returns whether the record is a delete.
-    pub fn is_delete(&self, rec: usize) -> bool {
-        match self.record(rec) {
-            Some(found) => matches!(found.op, Op::Delete { .. }),
-            None => false,
-        }
+    pub fn is_delete(&self, rec: No<D>) -> bool {
+        matches!(self.records.of(rec).op, Op::Delete { .. })
     }
 }

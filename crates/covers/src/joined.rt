@@ -6,7 +6,7 @@ ghost use Rattle.covers.specs.Covers.{HasNoUnpairedCover};
 ghost use Rattle.covers.specs.aids.Joined.{IsJoined};
 ghost use Rattle.covers.specs.aids.Searched.{AreSearched, HasLost};
 
-use crate::reordered::with_all;
+use crate::reordered::{NewPlaces, with_new_places};
 use doc_check::DocAnswer;
 use events::Front;
 use places::DocWitness;
@@ -68,7 +68,7 @@ fn join_changed(
         → (first ≡ true → HasNoUnpairedCover conflicts history.now)
         → IsJoined conflicts history.now first joined) }
 {
-    let Some(others) = with_all(alloc, witnesses, changes)? else {
+    let Some(others) = with_new_places(alloc, witnesses, NewPlaces::Paired(changes))? else {
         return Ok(Joined::Spent);
     };
     match pair_twice(alloc, history, &others)? {

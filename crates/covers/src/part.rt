@@ -1,7 +1,6 @@
 use doc_register::{Op, Reply};
 use events::Rec;
 use places::{DocWitness, Place};
-use shard_numbers::record_of;
 use std::alloc::Global;
 use version_pair::NoMemory;
 
@@ -30,7 +29,10 @@ enum PartSide {
 
 // The record at an index of the order, if it is an answered write that was performed.
 fn write_at(witness: &DocWitness, index: usize) -> Option<Rec> {
-    let found = record_of(witness, *witness.places().get(index)?)?;
+    if index >= witness.places().len() {
+        return None;
+    }
+    let found = witness.call(index);
     found.pair_taken()?;
     Some(found)
 }
@@ -120,9 +122,8 @@ impl OrderPart {
     fn last_event(self, witness: &DocWitness) -> usize {
         let mut last = 0;
         let mut next = usize::MAX;
-        for (index, place) in witness.places().iter().enumerate().skip(self.from) {
-            let found = record_of(witness, *place);
-            if let Some(heard) = found.and_then(|found| found.heard) {
+        for index in self.from..witness.places().len() {
+            if let Some(heard) = witness.call(index).heard {
                 if index < self.end {
                     last = last.max(heard.0);
                 } else {

@@ -22,19 +22,6 @@ pub fn if_valid(
     }
 }
 
-// Returns the witness with these places in place of its own, if they are valid.
-fn reordered(
-    alloc: Global,
-    witness: DocWitness,
-    places: Vec<Place>,
-) -> Result<Option<DocWitness>, NoMemory>
-    ensures { IfOk result (λ other. IfSome other (IsAlike witness)) }
-{
-    let conflicts = witness.conflicts();
-    let (id, records, _) = witness.into_parts();
-    if_valid(DocWitness::check(alloc, id, records, places, conflicts))
-}
-
 /// Returns a copy of the witness with these places in place of its own, if they are valid.
 pub fn reordered_copy(
     alloc: Global,
@@ -48,114 +35,92 @@ pub fn reordered_copy(
     if_valid(DocWitness::check(alloc, id, records, places, witness.conflicts()))
 }
 
-// Returns the witness, if `is_it` with these places in place of its own. `None` if they are not valid.
-fn reordered_if(
-    alloc: Global,
-    witness: DocWitness,
-    is_it: bool,
-    places: &[Place],
-) -> Result<Option<DocWitness>, NoMemory>
-    ensures { IfOk result (λ other. IfSome other (IsAlike witness)) }
-{
-    if is_it {
-        let places = Vec::from_slice(alloc, places)?;
-        return reordered(alloc, witness, places);
-    }
-    // Calling `places` makes it known from here on that its places are valid.
-    let _ = witness.places();
-    Ok(Some(witness))
+/// New places of some witnesses.
+#[derive(Clone, Copy)]
+pub enum NewPlaces<'a> {
+    /// Those of the witness with this number.
+    Of(usize, &'a [Place]),
+    /// Their own, with other pairs. The changes are in the order of their witnesses.
+    Paired(&'a [Change]),
 }
 
-/// Returns the witnesses, the one with this number with these places in place of its own. `None` if they are
-/// not valid.
-pub fn with_reordered(
-    alloc: Global,
-    witnesses: Vec<DocWitness>,
-    number: usize,
-    places: &[Place],
-) -> Result<Option<Vec<DocWitness>>, NoMemory>
-    ensures { IfOk result (λ others. IfSome others (λ ws. AreAlike witnesses.items ws.items)) }
-{
-    let mut others = Vec::with_capacity(alloc, witnesses.len())?;
-    for witness in witnesses {
-        let is_it = others.len() == number;
-        let Some(other) = reordered_if(alloc, witness, is_it, places)? else {
-            return Ok(None);
-        };
-        others.push(other)?;
-    }
-    Ok(Some(others))
+// Returns the changes of the witness with this number.
+fn changes_of(changes: &[Change], number: usize) -> &[Change] {
+    let later = &changes[changes.partition_point(|change| change.witness < number)..];
+    &later[..later.partition_point(|change| change.witness == number)]
 }
 
-// Returns the witness with its changes, if they leave it valid.
-fn change_places(
+// Returns the places with these changes; `None` if there are none.
+fn changed(
     alloc: Global,
-    witness: DocWitness,
+    places: &[Place],
     changes: &[Change],
-) -> Result<Option<DocWitness>, NoMemory>
-    ensures { IfOk result (λ other. IfSome other (IsAlike witness)) }
-{
-    let conflicts = witness.conflicts();
-    let (id, records, places) = witness.into_parts();
-    let mut places = places;
-    for i in 0..changes.len() {
-        let change = changes[i];
+) -> Result<Option<Vec<Place>>, NoMemory> {
+    if changes.is_empty() {
+        return Ok(None);
+    }
+    let mut places = Vec::from_slice(alloc, places)?;
+    for change in changes {
         if let Some(found) = places.get_mut(change.place) {
             found.pair = Some(change.pair);
         }
     }
-    if_valid(DocWitness::check(alloc, id, records, places, conflicts))
+    Ok(Some(places))
 }
 
-// Returns the index at which the changes of this witness end, which begin at `from`.
-fn end_of(changes: &[Change], from: usize, witness: usize) -> usize {
-    for i in from..changes.len() {
-        if changes[i].witness != witness {
-            return i;
+impl NewPlaces<'_> {
+    // Returns the new places of the witness with this number, if it gets some.
+    fn places(
+        self,
+        alloc: Global,
+        number: usize,
+        witness: &DocWitness,
+    ) -> Result<Option<Vec<Place>>, NoMemory> {
+        match self {
+            NewPlaces::Of(own, places) if own == number => {
+                Ok(Some(Vec::from_slice(alloc, places)?))
+            }
+            NewPlaces::Of(..) => Ok(None),
+            NewPlaces::Paired(changes) => {
+                changed(alloc, witness.places(), changes_of(changes, number))
+            }
         }
     }
-    changes.len()
 }
 
-// Returns the witness as it is, or with its changes; `None` if it is not valid any more.
-fn with_changes(
+// Returns the witness, with these places in place of its own if there are some. `None` if they are not valid.
+fn reordered(
     alloc: Global,
     witness: DocWitness,
-    changes: &[Change],
+    places: Option<Vec<Place>>,
 ) -> Result<Option<DocWitness>, NoMemory>
     ensures { IfOk result (λ other. IfSome other (IsAlike witness)) }
 {
-    if changes.is_empty() {
+    let Some(places) = places else {
         // Calling `places` makes it known from here on that its places are valid.
         let _ = witness.places();
         return Ok(Some(witness));
-    }
-    change_places(alloc, witness, changes)
+    };
+    let conflicts = witness.conflicts();
+    let (id, records, _) = witness.into_parts();
+    if_valid(DocWitness::check(alloc, id, records, places, conflicts))
 }
 
-/// Returns the witnesses with their changes, which are in their order; `None` if one is not valid any more.
-pub fn with_all(
+/// Returns the witnesses, those that get new places with these; `None` if some are not valid.
+pub fn with_new_places(
     alloc: Global,
     witnesses: Vec<DocWitness>,
-    changes: &[Change],
+    new: NewPlaces<'_>,
 ) -> Result<Option<Vec<DocWitness>>, NoMemory>
     ensures { IfOk result (λ others. IfSome others (λ ws. AreAlike witnesses.items ws.items)) }
 {
     let mut others = Vec::with_capacity(alloc, witnesses.len())?;
-    let mut number = 0usize;
-    let mut from = 0;
     for witness in witnesses {
-        let end = end_of(changes, from, number);
-        let own = match changes.get(from..end) {
-            Some(own) => own,
-            None => return Ok(None),
-        };
-        let Some(other) = with_changes(alloc, witness, own)? else {
+        let places = new.places(alloc, others.len(), &witness)?;
+        let Some(other) = reordered(alloc, witness, places)? else {
             return Ok(None);
         };
         others.push(other)?;
-        from = end;
-        number = number.saturating_add(1);
     }
     Ok(Some(others))
 }

@@ -8,7 +8,7 @@ use crate::covering::Covering;
 use crate::doc_limits::DocLimits;
 use crate::joined::{Joined, joined_again};
 use crate::nearby::{Nearby, PartSearch};
-use crate::reordered::with_reordered;
+use crate::reordered::{NewPlaces, with_new_places};
 use crate::second_look::SearchContext;
 use completing_forward::Limit;
 use events::Front;
@@ -200,7 +200,8 @@ pub fn cover_with_fewer<'x>(
             break;
         };
         limits.note(found.doc, found.limit)?;
-        let Some(others) = with_reordered(alloc, witnesses, found.doc, &found.places)? else {
+        let new = NewPlaces::Of(found.doc, &found.places);
+        let Some(others) = with_new_places(alloc, witnesses, new)? else {
             return Ok(Covering::NotFound(None));
         };
         match joined_again(alloc, history, others, known.used)? {

@@ -10,7 +10,7 @@ use Rattle.doc_register.specs.declared.reply.Reply.{Reply as Answer}
 use Rattle.doc_register.specs.declared.reply.Reply.TheVariants.{Found}
 use Rattle.doc_register.specs.declared.state.Conflicts.{Conflicts}
 use Rattle.events.specs.declared.event.Event.{Event}
-use Rattle.events.specs.declared.event.Event.TheVariants.{Call, Reply}
+use Rattle.events.specs.declared.event.Event.TheVariants.{Call}
 use Rattle.events.specs.Events.{IsCallAt, IsHistory, PassesAt, Precedes, heard_of, is_call_of}
 use Rattle.events.proofs.HistoryLemmas.{call_passes, reply_passes}
 use Rattle.version_pair.proofs.ListLemmas.{same_some}
@@ -105,10 +105,6 @@ write_within events n w look = slice_get_within events w.called (Call w.shard n 
 
 pub get_within : (events : List Event) (n : ℕ) (get : FoundGet) → IsFoundGet events n get → get.called < length events
 get_within events n get look = slice_get_within events get.called (Call look.shard n look.doc look.op) look.call
-
-pub reply_within : (events : List Event) (n : ℕ) (get : FoundGet) → IsHistory events → IsFoundGet events n get → get.replied < length events
-reply_within events n get history look =
-    slice_get_within events get.replied (Reply n (Found get.pair get.k)) (heard_is_reply events history get.called n look.shard look.doc look.op look.call get.replied (Found get.pair get.k) look.heard)
 
 -- ---- a pair twice
 

@@ -35,15 +35,6 @@ records_ready conflicts events doc records history is =
     let x = document_there events doc records is in
     subst (λ (rs : List Rec). AreInOrder (reported conflicts rs)) x.same (records_in_order conflicts events x.document.0 history)
 
--- what is found of its records is found of the document
-pub found_of_document : (conflicts : Conflicts) (events : List Event) (doc : ℕ) (records : List Rec) (found : Option ℕ)
-    → option_map (λ (d : List ℕ × ℕ). records_of events d.0) (slice_get (documents_of events) doc) ≡ Some records → IsRuledOutAt (reported conflicts records) found
-    → IsRuledOutDocument conflicts events doc found
-found_of_document conflicts events doc records found is at document listed =
-    let x = document_there events doc records is in
-    let one : x.document ≡ document = same_some x.document document (sym x.listed ∙ listed) in
-    subst (λ (d : List ℕ × ℕ). IsRuledOutAt (reported conflicts (records_of events d.0)) found) one (subst (λ (rs : List Rec). IsRuledOutAt (reported conflicts rs) found) (sym x.same) at)
-
 -- a document that is ruled out at the call is ruled out at no other
 pub only_call : (conflicts : Conflicts) (events : List Event) (n : ℕ) (found : Option ℕ) → IsHistory events → (is : IsRuledOutIn conflicts events n) → IsRuledOutDocument conflicts events is.doc found → found ≡ Some n
 only_call conflicts events n found history is at = by_found found (at is.document is.listed) where

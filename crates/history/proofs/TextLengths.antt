@@ -1,7 +1,7 @@
 -- A text is not longer than its lines allow.
-use Rattle.std.proofs.Common.{ℕ, suc, ◌≤◌, ◌<◌, ◌+◌, ◌*◌, List, [], ◌∷◌, length, arith, Bool, true, false, All}
+use Rattle.std.proofs.Common.{ℕ, suc, ◌≤◌, ◌<◌, ◌+◌, ◌*◌, List, [], ◌∷◌, length, arith, Bool, true, false}
 use Rattle.std.specs.Prelude.{◌==◌, if◌then◌else◌, slice_index_or}
-use Rattle.api_lines.specs.Lines.{lines_of, longest_line, most_lines, onto_first}
+use Rattle.api_lines.specs.Lines.{lines_of, longest_line, onto_first}
 
 line_bytes : List (List ℕ) → ℕ
 line_bytes [] = 0
@@ -26,11 +26,3 @@ few_bytes [] h = omega arith
 few_bytes (l ∷ ls) h =
     let first : length l ≤ 65536 = h 0 [] (omega arith) in
     let later : line_bytes ls ≤ length ls * 65537 = few_bytes ls (λ k d below. h (suc k) d (omega arith)) in omega arith
-
--- a text of such lines has no more bytes than they and their line feeds
-pub text_within : (text : List ℕ) → length (lines_of text) ≤ most_lines → All (λ line. length line ≤ longest_line) (lines_of text) → length text ≤ most_lines * (longest_line + 1)
-text_within text few short =
-    let a = text_bytes text in
-    let b = few_bytes (lines_of text) short in
-    let within : length text ≤ 4194304 * 65537 = omega arith in
-    within

@@ -1,5 +1,5 @@
 -- A history text is read: the function that reads it gives its history, and nothing else.
-use Rattle.std.proofs.Common.{ℕ, ◌≡◌, ◌<◌, ◌^◌, List, [], ◌∷◌, ◌++◌, refl, sym, ap, subst, ◌∙◌, Bool, true, Option, Some, None, ◌⊎◌, inl, inr, Result, Ok, Err, slice_get, eq-eqb}
+use Rattle.std.proofs.Common.{ℕ, ◌≡◌, ◌<◌, ◌^◌, List, refl, sym, ap, subst, ◌∙◌, Bool, true, Option, Some, None, ◌⊎◌, inl, inr, Result, Ok, Err, slice_get, eq-eqb}
 use Rattle.std.specs.Prelude.{IfErr, codes, if◌then◌else◌, option_and_then}
 use Rattle.std.specs.Str.{bytes_eq}
 use Rattle.std.proofs.lemmas.Bool.{eqb-true}
@@ -218,10 +218,6 @@ abbrev pub unit_err : HistFault → Result (Unit {0}) HistFault
 unit_err f = Err f
 
 -- ---- what a line says, as the code takes it
-
--- the event is added
-pub event_added : (H G : List Event) (e : Event) → refusal_of H e ≡ None → G ≡ H ++ e ∷ [] → adds H e ≡ Ok G
-event_added H G e kept grown = ap (with_more H e) kept ∙ ap (λ K. Ok K) (sym grown)
 
 -- the event is refused
 pub event_kept_out : (H : List Event) (e : Event) (f : HistFault) → refusal_reported (unit_err f) ≡ refusal_of H e

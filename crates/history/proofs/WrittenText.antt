@@ -64,19 +64,6 @@ plain_call false n h d (Delete None) = (refl, lit≤ tt)
 plain_call false n h d (Delete (Some p)) = (refl, lit≤ tt)
 plain_call false n h d (Create k) = (refl, lit≤ tt)
 
-pub plain_call_value : (n h : ℕ) (d : List ℕ) (op : Op) → IsPlain (call_value n h d op)
-plain_call_value n h d op = plain_call (h == 0) n h d op
-
-pub plain_reply_value : (n : ℕ) (d : List ℕ) (r : Answer) → IsPlain (reply_value n d r)
-plain_reply_value n d (Indexed p created) = (refl, lit≤ tt)
-plain_reply_value n d (Deleted p found) = (refl, lit≤ tt)
-plain_reply_value n d (Found p k) = (refl, lit≤ tt)
-plain_reply_value n d Missing = (refl, lit≤ tt)
-plain_reply_value n d Conflict = (refl, lit≤ tt)
-
-pub plain_lost_value : (n : ℕ) → IsPlain (lost_value n)
-plain_lost_value n = (refl, lit≤ tt)
-
 -- ---- lines are short
 
 member_short : (later : Bool) (key : List ℕ) (v : Data) (ms : Members) (a b : ℕ) → length key ≤ 15 → length (compact_text v) ≤ a

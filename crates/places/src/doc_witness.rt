@@ -1,6 +1,6 @@
-ghost use Rattle.std.specs.Prelude.{◌≡◌, ◌≢◌, IfOk, IfErr, IsOk};
+ghost use Rattle.std.specs.Prelude.{◌≡◌, ◌≢◌, ◌<◌, IfOk, IfErr, IfSome, IsOk, length, slice_get};
 ghost use Rattle.places.specs.declared.broken.Broken.TheVariants.{NoMemory as Unchecked};
-ghost use Rattle.places.specs.Places.{AreValid};
+ghost use Rattle.places.specs.Places.{AreValid, IsPlaceOf};
 ghost use Rattle.places.specs.Faults.{IsFirstFault};
 
 use crate::broken::Broken;
@@ -115,6 +115,16 @@ impl DocWitness {
         // The access to a field makes the type's invariant known from here on.
         let _ = &self.id;
         &self.places
+    }
+
+    /// Returns the call of the place with this index in the order.
+    pub fn call(&self, index: usize) -> Rec
+        // There is such a place.
+        requires { index < length self.now.places }
+        // The place names the call.
+        ensures { IfSome (slice_get self.now.places index) (λ place. IsPlaceOf self.now.records place result) }
+    {
+        self.records[self.places[index].rec]
     }
 
     /// Returns the document's id, its calls, and the order that explains them.

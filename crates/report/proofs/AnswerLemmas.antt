@@ -30,12 +30,10 @@ use Rattle.compose.specs.declared.offence.Offence.{Offence}
 use Rattle.stream_io.specs.declared.status.Status.{Status}
 use Rattle.stream_io.specs.declared.status.Status.TheVariants.{No, Refuted, Refused}
 use Rattle.result_lines.specs.Lines.{broken_line, no_line, refused_file_line, refused_line, refuted_line}
-use Rattle.compose.specs.declared.finding.Finding.{Finding}
-use Rattle.compose.specs.declared.finding.Finding.TheVariants.{Explained, Unexplained}
 use Rattle.report.specs.Bulk.{AnswersBulk, IsBulkAnswer}
 use Rattle.report.specs.aids.Earlier.{IsEarlier, grounds, grounds_by}
 use Rattle.report.specs.declared.earlier.Earlier.{Earlier}
-use Rattle.report.specs.Findings.{HasItsEvidence, IsFindingOf, SaysFailing}
+use Rattle.report.specs.Findings.{SaysFailing}
 use Rattle.report.specs.Verdict.{IsAnswer, IsRefutedBy, IsSomeHistory, IsUndecided, IsUnexplained, IsVerifyAnswer, IsWitnessAnswer, IsWitnessed}
 use Rattle.report.proofs.WitnessLimits.{within_limits}
 
@@ -127,12 +125,6 @@ evidence_holds : (ruling : RulingOut) (conflicts : Conflicts) (H : List Event) (
     → SaysFailing ruling conflicts H status line o found → IfSome found (Holds conflicts H)
 evidence_holds ruling conflicts H status line o None says = tt
 evidence_holds ruling conflicts H status line o (Some reported) says = says.2
-
-pub found_holds : (ruling : RulingOut) (conflicts : Conflicts) (H : List Event) (status : Status) (line : List ℕ) (finding : Finding)
-    → IsFindingOf ruling conflicts H status line finding → HasItsEvidence finding
-found_holds ruling conflicts H status line (Explained proof) found = tt
-found_holds ruling conflicts H status line (Unexplained case failing) found =
-    evidence_holds ruling case.conflicts case.events status line failing.offence failing.evidence found.2
 
 -- a history that has a prefix without an order has none
 pub prefix_refutes : (c d : Conflicts) (whole part : List Event) (n : ℕ) → PrefixesStay → c ≡ d → part ≡ prefix whole n

@@ -13,9 +13,7 @@ use Rattle.compose.specs.declared.offence.Offence.{Offence}
 use Rattle.result_lines.specs.Objects.{line_of}
 use Rattle.result_lines.specs.declared.reported.Reported.{Reported}
 use Rattle.stream_io.specs.declared.status.Status.{Status}
-use Rattle.stream_io.specs.declared.status.Status.TheVariants.{Yes, No, Refuted}
-use Rattle.report.specs.Calls.{CountsCalls}
-use Rattle.report.specs.Details.{IsProvedOf, calls_reported, status_of}
+use Rattle.report.specs.Details.{IsProvedOf, status_of}
 use Rattle.report.specs.Findings.{SaysFailing}
 use Rattle.report.specs.aids.Reports.{IsProvedBy, IsReportOf}
 use Rattle.report.specs.Verdict.{IsAnswer, IsWitnessAnswer}
@@ -35,11 +33,6 @@ answers_reported ruling conflicts H input status line o found said says is answe
     let same = says_reported ruling conflicts H status line o found said says is in
     subst (λ s. IsAnswer ruling conflicts input s (line_of said) × IsWitnessAnswer ruling conflicts input s (line_of said)) same.0
     (subst (λ l. IsAnswer ruling conflicts input status l × IsWitnessAnswer ruling conflicts input status l) same.1 answers)
-
--- no calls are counted of it
-pub uncounted : (input : List ℕ) (o : Offence) (found : Option Evidence) (said : Reported) → IsReportOf o found said → CountsCalls input (status_of said) (calls_reported said)
-uncounted input o None said is = subst (λ s. CountsCalls input (status_of s) (calls_reported s)) (sym is) (λ (same : No ≡ Yes). cc)
-uncounted input o (Some evidence) said is = subst (λ s. CountsCalls input (status_of s) (calls_reported s)) (sym is) (λ (same : Refuted ≡ Yes). cc)
 
 -- what is said to be proved of it is as `IsProvedOf` says
 pub proved_reported : (conflicts : Conflicts) (H : List Event) (input : List ℕ) (o : Offence) (found : Option Evidence) (said : Reported) (proved : Bool) → TextOfOneHistory

@@ -1,11 +1,10 @@
 -- The walk over the answered calls of a document, call by call.
-use Rattle.std.proofs.Common.{ℕ, suc, ◌≡◌, ◌<◌, ◌≤◌, ◌+◌, ◌⊎◌, inl, inr, List, length, refl, sym, ap, subst, ◌∙◌, arith, Option, Some, None, Bor, slice_get, slice_index_or}
+use Rattle.std.proofs.Common.{ℕ, suc, ◌≡◌, ◌<◌, ◌≤◌, ◌+◌, ◌⊎◌, inl, inr, List, length, sym, ap, subst, ◌∙◌, arith, Some, slice_get}
 use Rattle.std.proofs.lemmas.Bool.{cases_lt}
-use Rattle.std.proofs.lemmas.Option.{slice_get_past, slice_get_within}
-use Rattle.std.specs.Slice.{IsItemAt}
+use Rattle.std.proofs.lemmas.Option.{slice_get_within}
 use Rattle.doc_register.specs.declared.reply.Reply.{Reply}
 use Rattle.events.specs.declared.record.Rec.{Rec}
-use Rattle.version_pair.proofs.ListLemmas.{none_is_not_some, same_some}
+use Rattle.version_pair.proofs.ListLemmas.{same_some}
 use Rattle.ruled_out.specs.declared.walk.EventWalk.{EventWalk}
 use Rattle.ruled_out.specs.Placings.{AreInOrder, IsRuledOut}
 use Rattle.write_chain.specs.AnsweredCalls.{AreAnsweredCalls, answer_of}
@@ -13,9 +12,9 @@ use Rattle.write_chain.specs.declared.answers.AnsweredRec.{AnsweredRec}
 use Rattle.ruled_out.specs.aids.Standing.{Answers}
 use Rattle.ruled_out.specs.aids.States.{AreEarlier, HasPassed, IsAt, PassesCalls, floor_in}
 use Rattle.ruled_out.specs.aids.Walks.{IsAnswerAt, IsWalked}
-use Rattle.ruled_out.proofs.AnswerLemmas.{past_is, walked_same}
+use Rattle.ruled_out.proofs.AnswerLemmas.{walked_same}
 use Rattle.ruled_out.proofs.ReplyOrder.{answered_entry, replies_rise}
-use Rattle.ruled_out.proofs.WalkLemmas.{not_ruled_out, walked_first, walked_on}
+use Rattle.ruled_out.proofs.WalkLemmas.{not_ruled_out, walked_on}
 
 -- so many of the answered calls have their positions
 pub record IsWalkedTo (records : List Rec) (answers : List AnsweredRec) (i : ℕ) (walk : EventWalk) : Type 0 where
@@ -25,16 +24,6 @@ pub record IsWalkedTo (records : List Rec) (answers : List AnsweredRec) (i : ℕ
   pub earlier : AreEarlier records walk.floors.items event
   pub before : (m : ℕ) (a : AnsweredRec) → m < i → slice_get answers m ≡ Some a → a.reply_at < event
   pub after : (m : ℕ) (a : AnsweredRec) → i ≤ m → slice_get answers m ≡ Some a → event ≤ a.reply_at
-
-pub walked_start : (records : List Rec) (answers : List AnsweredRec) (walk : EventWalk) → IsAt records walk → length walk.floors.items ≡ 0 → walk.reached ≡ 0 → IsWalkedTo records answers 0 walk
-walked_start records answers walk known none zero_reached = record {
-  known = known;
-  event = 0;
-  walked = walked_first records (floor_in walk) (λ j. ap (λ n. slice_index_or walk.floors.items j n) zero_reached ∙ past_is walk.floors.items j 0 (omega (arith, none)));
-  earlier = λ j r at inside. absurd (let empty : length walk.floors.items ≡ 0 = none in omega arith);
-  before = λ m a less at. absurd (omega (arith, less));
-  after = λ m a over at. omega arith;
-}
 
 -- the calls up to the next reply are passed
 pub walked_up : (records : List Rec) (answers : List AnsweredRec) (i : ℕ) (a : AnsweredRec) (old new : EventWalk) → AreInOrder records → AreAnsweredCalls records answers → slice_get answers i ≡ Some a → IsWalkedTo records answers i old → PassesCalls records a.reply_at old new
@@ -89,8 +78,3 @@ walked_end records answers i walk are past w =
     let inside : entry.0 < length answers = slice_get_within answers entry.0 (answer_of y j) entry.1 in
     w.walked.placed j c y reply at heard (w.before entry.0 (answer_of y j) (omega arith) entry.1)
     ))
-
--- a look-up that finds nothing has nothing to find
-pub get_none : {X : Type 0} (xs : List X) (i : ℕ) (r : Option (Bor X)) (x : X) → IsItemAt xs i r → ((y : Bor X) → r ≡ Some y → ⊥) → slice_get xs i ≡ Some x → ⊥
-get_none xs i None x item not at = none_is_not_some x (sym (slice_get_past xs i item.3) ∙ at)
-get_none xs i (Some y) x item not at = not y refl

@@ -1,5 +1,5 @@
 -- Each document of a history that an order explains has a placing: its calls stand where they do in the order.
-use Rattle.std.proofs.Common.{ℕ, suc, ◌≡◌, ◌<◌, ◌≤◌, ◌⊎◌, inl, inr, List, [], refl, sym, ap, subst, ◌∙◌, arith, Bool, true, false, not, true≢false, Option, Some, None, length, option_and_then}
+use Rattle.std.proofs.Common.{ℕ, suc, ◌≡◌, ◌<◌, ◌≤◌, ◌⊎◌, inl, inr, List, refl, sym, ap, subst, ◌∙◌, arith, Bool, true, false, not, true≢false, Option, Some, None, length, option_and_then}
 use Rattle.std.proofs.lemmas.Option.{slice_get_within}
 use Rattle.std.proofs.lemmas.Bool.{cases_lt, true_from_ne_false}
 use Rattle.version_pair.specs.declared.pair.Pair.{Pair}

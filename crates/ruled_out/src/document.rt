@@ -1,4 +1,4 @@
-ghost use Rattle.std.specs.Prelude.{◌≡◌, IfOk, length};
+ghost use Rattle.std.specs.Prelude.{◌≡◌, ◌<◌, All, IfOk, length};
 ghost use Rattle.ruled_out.specs.Reported.{reported};
 ghost use Rattle.ruled_out.specs.Placings.{AreInOrder, IsRuledOutAt};
 ghost use Rattle.write_chain.specs.AnsweredCalls.{AreAnsweredCalls};
@@ -20,15 +20,14 @@ fn first_without_position(
 ) -> Result<Option<u64>, NoMemory>
     requires order { AreInOrder reported.now }
     requires sorted { AreAnsweredCalls reported.now answers.now }
+    requires within { All (λ answer. answer.rec < length reported.now) answers.now }
     requires known { IsAt reported.now walk.old }
     requires start { (length walk.old.floors.items ≡ 0) × (walk.old.reached ≡ 0) }
     ensures { IfOk result (IsRuledOutAt reported.now) }
 {
     for answer in answers {
         walk.pass_until(reported, answer.reply_at)?;
-        let Some(call) = reported.get(answer.rec) else {
-            return Ok(None);
-        };
+        let call = &reported[answer.rec];
         if !walk.answer(answer.rec, call) {
             return Ok(Some(call.no));
         }

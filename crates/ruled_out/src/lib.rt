@@ -16,7 +16,7 @@ pub mod laws;
 mod positions;
 mod possible;
 mod reported;
-mod standing;
+mod stage;
 mod standings;
 mod unhelpful;
 mod version;
@@ -26,6 +26,6 @@ mod writers;
 
 pub use cause::{Cause, Unmet};
 pub use document::ruled_out_at;
-pub use standing::{Stage, Standing};
+pub use stage::{Raise, Stage, Stop};
 pub use standings::Standings;
 pub use unhelpful::Unhelpful;

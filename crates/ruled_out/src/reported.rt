@@ -1,4 +1,4 @@
-ghost use Rattle.std.specs.Prelude.{◌≡◌, IfOk};
+ghost use Rattle.std.specs.Prelude.{◌≡◌, IfOk, length};
 ghost use Rattle.ruled_out.specs.Reported.{as_reported, reported, reported_of};
 
 use doc_register::{Conflicts, Reply};
@@ -33,7 +33,8 @@ pub fn reported_records(
     records: &[Rec],
     conflicts: Conflicts,
 ) -> Result<Vec<Rec>, NoMemory>
-    ensures { IfOk result (λ kept. kept.items ≡ reported conflicts records.now) }
+    ensures reported { IfOk result (λ kept. kept.items ≡ reported conflicts records.now) }
+    ensures count { IfOk result (λ kept. length kept.items ≡ length records.now) }
 {
     let mut kept = Vec::with_capacity(alloc, records.len())?;
     for call in records {

@@ -1,112 +1,118 @@
-use crate::cause::{Cause, cause_of};
+ghost use Rattle.std.specs.Prelude.{◌≡◌, ◌<◌, length};
+
+use crate::cause::cause_of;
 use crate::reported::reported_records;
-use crate::standing::{Stage, Standing, stage_of};
-use crate::unhelpful::{Unhelpful, Wanted, unhelpful_for};
+use crate::stage::{Raise, Stage, Stop, stage_of};
+use crate::unhelpful::{Unhelpful, unhelpful_for};
 use crate::walk::EventWalk;
 use doc_register::{Conflicts, Op};
 use events::Rec;
 use std::alloc::Global;
 use version_pair::{NoMemory, Pair};
-use write_chain::{AnsweredRec, answers_of};
+use write_chain::answers_of;
 
-/// The earliest positions of the answered calls of a document, and why the walk over them stops, if it does:
+/// The answered calls of a document that brought it to its positions, and the one that has none, if there is one:
 /// what `ruled_out_at` goes by, kept for explanations to people.
 ///
 /// No contract covers what is reported here. That a document is provably not linearizable is what the
 /// contract of `ruled_out_at` says.
 #[derive(Drop)]
-pub struct Standings {
+pub struct Standings<'a> {
+    /// The calls of the document.
+    pub records: &'a [Rec],
     reported: Vec<Rec>,
     walk: EventWalk,
-    standings: Vec<Standing>,
-    cause: Option<Cause>,
+    // By rising position.
+    raises: Vec<Raise>,
+    stop: Option<Stop>,
+    ghost same: { length reported.items ≡ length records.now },
 }
 
-// A position to which the document was brought, and the number of the standing that brought it there.
-#[derive(Clone, Copy)]
-struct Raise {
-    reached: usize,
-    standing: usize,
+// Whether the call is a write that may have been performed with a pair that no reply reported.
+fn is_unreported(call: &Rec) -> bool {
+    call.heard.is_none() && call.op != Op::Get
 }
 
-// Which standing first brought the document to the floor.
-fn bound_of(raises: &[Raise], floor: usize) -> Option<usize> {
-    if floor == 0 {
-        return None;
-    }
-    let place = raises.partition_point(|raise| raise.reached < floor);
-    raises.get(place).map(|raise| raise.standing)
-}
-
-impl Standings {
-    /// Returns the standings for the records of a document.
-    pub fn of(alloc: Global, records: &[Rec], conflicts: Conflicts) -> Result<Standings, NoMemory> {
-        let reported = reported_records(alloc, records, conflicts)?;
-        let answers = answers_of(alloc, &reported)?;
-        let walk = EventWalk::new(alloc, &reported)?;
-        let mut standings = Standings {
-            reported,
-            walk,
-            standings: Vec::new(alloc),
-            cause: None,
-        };
-        standings.walk_over(alloc, &answers)?;
-        Ok(standings)
-    }
-
-    // Walks over the answered calls, up to the one that has no position.
-    fn walk_over(&mut self, alloc: Global, answers: &[AnsweredRec]) -> Result<(), NoMemory> {
-        let mut raises = Vec::new(alloc);
-        for answer in answers {
-            self.walk.pass_until(&self.reported, answer.reply_at)?;
-            let before = self.walk.reached();
-            let bound = bound_of(&raises, self.walk.floor(answer.rec));
-            if !self.stand(answer.rec, bound)? {
-                return Ok(());
-            }
-            if before < self.walk.reached() {
+// Gives the answered call with this number its position. Returns it if it has none.
+fn stand(
+    walk: &mut EventWalk,
+    number: usize,
+    call: Rec,
+    raises: &mut Vec<Raise>,
+) -> Result<Option<Stop>, NoMemory> {
+    let Some(heard) = call.heard else {
+        return Ok(None);
+    };
+    let floor = walk.floor(number);
+    let before = walk.reached();
+    let permitted = walk.first_permitted(&call, heard.1, floor);
+    let stands = walk.answer(number, &call);
+    match permitted {
+        Some(earliest) if stands => {
+            let reached = walk.reached();
+            if before < reached {
                 raises.push(Raise {
-                    reached: self.walk.reached(),
-                    standing: self.standings.len().saturating_sub(1),
+                    call,
+                    floor,
+                    earliest,
+                    reached,
                 })?;
             }
+            Ok(None)
         }
-        Ok(())
-    }
-
-    // Gives the answered call with this number its position; that standing bounds it. Returns whether it has
-    // a position.
-    fn stand(&mut self, number: usize, bound: Option<usize>) -> Result<bool, NoMemory> {
-        let Some(call) = self.reported.get(number).copied() else {
-            return Ok(false);
-        };
-        let Some(heard) = call.heard else {
-            return Ok(true);
-        };
-        let floor = self.walk.floor(number);
-        let permitted = self.walk.first_permitted(&call, heard.1, floor);
-        let stands = self.walk.answer(number, &call);
-        if !stands {
-            self.cause = Some(cause_of(&self.walk, &call, heard.1, floor));
-        }
-        self.standings.push(Standing {
-            record: number,
+        _ => Ok(Some(Stop {
+            call,
+            reply_at: heard.0,
             floor,
-            bound,
-            earliest: if stands { permitted } else { None },
-        })?;
-        Ok(stands)
+            cause: cause_of(walk, &call, heard.1, floor),
+        })),
+    }
+}
+
+impl<'a> Standings<'a> {
+    /// Returns what the walk over the records of a document comes to.
+    pub fn of(
+        alloc: Global,
+        records: &'a [Rec],
+        conflicts: Conflicts,
+    ) -> Result<Standings<'a>, NoMemory> {
+        let reported = reported_records(alloc, records, conflicts)?;
+        let answers = answers_of(alloc, &reported)?;
+        let mut walk = EventWalk::new(alloc, &reported)?;
+        let mut raises = Vec::new(alloc);
+        let mut stop = None;
+        for i in 0..answers.len() {
+            let answer = answers[i];
+            walk.pass_until(&reported, answer.reply_at)?;
+            stop = stand(&mut walk, answer.rec, records[answer.rec], &mut raises)?;
+            if stop.is_some() {
+                break;
+            }
+        }
+        Ok(Standings {
+            records,
+            reported,
+            walk,
+            raises,
+            stop,
+        })
     }
 
-    /// Returns the standings in response order, up to the one that has no position.
-    pub fn standings(&self) -> &[Standing] {
-        &self.standings
+    /// Returns the call that has no position, if the document is ruled out.
+    pub fn stop(&self) -> Option<Stop> {
+        self.stop
     }
 
-    /// Returns the standing that has no position, and why, if the document is ruled out.
-    pub fn stop(&self) -> Option<(Standing, Cause)> {
-        let last = self.standings.last().copied()?;
-        Some((last, self.cause?))
+    /// Returns the call that first brought the document to the position or beyond. `None` for the position before all
+    /// writes, and if no call brought it there.
+    pub fn raised_to(&self, position: usize) -> Option<Raise> {
+        if position == 0 {
+            return None;
+        }
+        let lower = self
+            .raises
+            .partition_point(|raise| raise.reached < position);
+        self.raises[lower..].first().copied()
     }
 
     /// Returns the state of the document at the position.
@@ -119,26 +125,26 @@ impl Standings {
         self.walk.versions().known.last_below(pair)
     }
 
-    /// Returns whether the record is of a write that may have been performed with a pair that no reply
-    /// reported.
-    pub fn is_unreported(&self, number: usize) -> bool {
-        match self.reported.get(number) {
-            Some(call) => call.heard.is_none() && call.op != Op::Get,
-            None => false,
-        }
+    /// Returns the number of the writes that may have been performed with a pair that no reply reported.
+    pub fn unreported(&self) -> usize {
+        self.reported
+            .iter()
+            .filter(|call| is_unreported(call))
+            .count()
     }
 
-    /// Returns the reason why the write of this record, which no reply reports, does not give a position to
-    /// the call at which the document is ruled out.
-    pub fn unhelpful(&self, number: usize) -> Option<Unhelpful> {
-        let (stop, cause) = self.stop()?;
-        let event = self.reported.get(stop.record)?.heard.map(|heard| heard.0)?;
-        let write = self.reported.get(number)?;
-        let wanted = Wanted {
-            cause,
-            floor: stop.floor,
-            event,
-        };
-        Some(unhelpful_for(self.walk.versions(), write, self.walk.floor(number), wanted))
+    /// Returns the reason why the write of this record does not give a position to the call that has none; `None` if
+    /// the record isn't of a write, or a reply reports it.
+    pub fn unhelpful(&self, stop: Stop, number: usize) -> Option<Unhelpful>
+        // There is a record with the number.
+        requires { number < length self.now.records.now }
+    {
+        let call = &self.reported[number];
+        if is_unreported(call) {
+            let floor = self.walk.floor(number);
+            Some(unhelpful_for(self.walk.versions(), call, floor, stop))
+        } else {
+            None
+        }
     }
 }

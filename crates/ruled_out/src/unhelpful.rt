@@ -1,4 +1,5 @@
 use crate::cause::Cause;
+use crate::stage::Stop;
 use crate::versions::Versions;
 use doc_register::Op;
 use events::Rec;
@@ -24,15 +25,6 @@ pub enum Unhelpful {
     NoRoom(Option<Pair>, Pair),
     /// The document had passed that version when it was made.
     Passed,
-}
-
-/// What a write without a reply is examined for: a call has no position, for this cause; it was made when the
-/// document had reached the floor, and was answered at the event.
-#[derive(Clone, Copy)]
-pub struct Wanted {
-    pub cause: Cause,
-    pub floor: usize,
-    pub event: usize,
 }
 
 // Whether the write is of the wrong kind.
@@ -74,11 +66,11 @@ fn place_of(versions: &Versions, write: &Rec, cause: Cause) -> Option<Option<Pai
 }
 
 // Whether a change at the position is what is needed.
-fn is_wanted_at(versions: &Versions, wanted: Wanted, position: usize) -> bool {
-    match wanted.cause {
+fn is_wanted_at(versions: &Versions, stop: Stop, position: usize) -> bool {
+    match stop.cause {
         Cause::WasThere(pair) | Cause::WasAbsent(pair) => position
             == versions.known.taking_position(pair),
-        _ => wanted.floor <= position,
+        _ => stop.floor <= position,
     }
 }
 
@@ -91,8 +83,8 @@ fn next_known(versions: &Versions, last: Option<Pair>) -> Option<Pair> {
 }
 
 // Why the write can't have changed the document where a change is needed.
-fn not_changed(versions: &Versions, write: &Rec, floor: usize, wanted: Wanted) -> Unhelpful {
-    let Some(last) = place_of(versions, write, wanted.cause) else {
+fn not_changed(versions: &Versions, write: &Rec, floor: usize, stop: Stop) -> Unhelpful {
+    let Some(last) = place_of(versions, write, stop.cause) else {
         return Unhelpful::Vain;
     };
     let Some(position) = versions.known.gap_above(last) else {
@@ -101,7 +93,7 @@ fn not_changed(versions: &Versions, write: &Rec, floor: usize, wanted: Wanted) -
             None => Unhelpful::Vain,
         };
     };
-    if !is_wanted_at(versions, wanted, position) {
+    if !is_wanted_at(versions, stop, position) {
         Unhelpful::OtherVersion
     } else if floor > position {
         Unhelpful::Passed
@@ -111,16 +103,16 @@ fn not_changed(versions: &Versions, write: &Rec, floor: usize, wanted: Wanted) -
 }
 
 /// Returns the reason why the write without a reply, which was made when the document had reached this floor,
-/// doesn't help.
-pub fn unhelpful_for(versions: &Versions, write: &Rec, floor: usize, wanted: Wanted) -> Unhelpful {
-    if write.call_at >= wanted.event {
+/// gives no position to the call that has none.
+pub fn unhelpful_for(versions: &Versions, write: &Rec, floor: usize, stop: Stop) -> Unhelpful {
+    if write.call_at >= stop.reply_at {
         return Unhelpful::Late;
     }
-    if let Some(unhelpful) = other_kind(wanted.cause, write.op) {
+    if let Some(unhelpful) = other_kind(stop.cause, write.op) {
         return unhelpful;
     }
-    match wanted.cause {
+    match stop.cause {
         Cause::Unwritten(pair) => not_written(versions, write, floor, pair),
-        _ => not_changed(versions, write, floor, wanted),
+        _ => not_changed(versions, write, floor, stop),
     }
 }

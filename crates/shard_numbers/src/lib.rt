@@ -19,5 +19,5 @@ mod used_pairs;
 pub use renumbered::gaps::{Gap, Gaps};
 pub use renumbered::{Change, GapNumbers, numbers_of};
 pub use shortage::Shortage;
-pub use taken::{pair_twice, record_of, shard_of};
+pub use taken::{pair_twice, shard_of};
 pub use used_pairs::{ShownCalls, UsedPairs};

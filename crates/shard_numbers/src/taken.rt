@@ -38,11 +38,6 @@ pub fn pair_of_place(records: &[Rec], place: Place) -> Option<Pair>
     }
 }
 
-/// Returns the record of a place of the witness.
-pub fn record_of(witness: &DocWitness, place: Place) -> Option<Rec> {
-    witness.records().get(place.rec).copied()
-}
-
 // Adds the pair that the call of a place takes, with the shard.
 fn add_place(
     pairs: &mut Vec<(u32, Pair)>,

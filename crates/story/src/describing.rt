@@ -6,7 +6,7 @@ use std::alloc::Global;
 use story_blocks::Word::{Count, Id, Number, Phrase, Version};
 use story_blocks::{Draft, EventLines, HistoryCounts, NOTATION, Story, View};
 use story_drawings::MOST_DESCRIBED;
-use story_reasons::{Explained, record_at};
+use story_reasons::Explained;
 use story_words::add_coverage;
 use version_pair::NoMemory;
 
@@ -28,15 +28,19 @@ fn completed_count(witnesses: &[DocWitness]) -> usize {
 // there is room for after them.
 fn add_completed(draft: &mut Draft<'_>, witness: &DocWitness, room: usize) -> usize {
     let mut room = room;
-    for place in witness.places() {
-        if room > 0 && place.pair.is_some() {
-            if let Some(record) = record_at(witness, place) {
-                draft.item(
-                    "line {0.called}, call {0.no} of {1}: {0.asked} -> {0.heard}, took effect as {2}",
-                    &[draft.call(&record), Id(witness.id()), Version(place.pair)],
-                );
-                room = room.saturating_sub(1);
-            }
+    let places = witness.places();
+    for i in 0..places.len() {
+        let pair = places[i].pair;
+        if room > 0 && pair.is_some() {
+            draft.item(
+                "line {0.called}, call {0.no} of {1}: {0.asked} -> {0.heard}, took effect as {2}",
+                &[
+                    draft.call(&witness.call(i)),
+                    Id(witness.id()),
+                    Version(pair),
+                ],
+            );
+            room -= 1;
         }
     }
     room

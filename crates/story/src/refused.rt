@@ -49,13 +49,13 @@ fn cause_words(cause: TextCause) -> &'static str {
 // nothing is left to judge.
 fn lines_before_cut(refused: &RefusedLine) -> Option<u64> {
     let line = &refused.line;
-    let before = refused.fault.line.checked_sub(1)?;
-    if before > 0
+    let number = refused.fault.line;
+    if number > 1
         && refused.fault.cause == TextCause::Json
         && line.starts_with(b"{")
         && !line.ends_with(b"}")
     {
-        Some(before)
+        Some(number - 1)
     } else {
         None
     }

@@ -200,7 +200,7 @@ fn order_in_view<S: OrderSearch>(
         .records
         .partition_point(|record| record.call_at < first);
     let extent = OrderExtent {
-        least: viewed.records.len().saturating_sub(before),
+        least: viewed.records.len() - before,
         most: usize::MAX,
     };
     order_before(

@@ -1,3 +1,5 @@
+ghost use Rattle.std.specs.Prelude.{◌<◌, All, IfSome, length};
+
 use std::alloc::Global;
 use version_pair::NoMemory;
 
@@ -18,6 +20,7 @@ pub struct Clients {
     names: Vec<String>,
     // By position, rising.
     askings: Vec<Asking>,
+    ghost named: { All (λ asking. asking.name < length names.items) askings.items },
 }
 
 impl Clients {
@@ -30,10 +33,12 @@ impl Clients {
     }
 
     // Returns the number of the name, if it is one of the last.
-    fn recent(&self, name: &str) -> Option<usize> {
+    fn recent(&self, name: &str) -> Option<usize>
+        ensures { IfSome result (λ i. i < length self.now.names.items) }
+    {
         let first = self.names.len().saturating_sub(MOST_COMPARED);
-        for (i, known) in self.names.iter().enumerate().skip(first) {
-            if known.as_str() == name {
+        for i in first..self.names.len() {
+            if self.names[i].as_str() == name {
                 return Some(i);
             }
         }
@@ -50,7 +55,7 @@ impl Clients {
             Some(number) => number,
             None => {
                 self.names.push(String::from_str(alloc, name)?)?;
-                self.names.len().saturating_sub(1)
+                self.names.len() - 1
             }
         };
         self.askings.push(Asking { place, name })?;
@@ -61,7 +66,7 @@ impl Clients {
     pub fn of(&self, place: usize) -> Option<&str> {
         let before = self.askings.partition_point(|asking| asking.place < place);
         match self.askings.get(before) {
-            Some(asking) if asking.place == place => { Some(self.names.get(asking.name)?.as_str()) }
+            Some(asking) if asking.place == place => Some(self.names[asking.name].as_str()),
             _ => None,
         }
     }

@@ -33,9 +33,7 @@ pub use diagnosis::{Diagnosis, diagnosis_of};
 pub use falling_versions::version_fall;
 pub use lost_writes::LostWrites;
 pub use order_search::OrderSearch;
-pub use order_steps::{
-    OrderBefore, OrderExtent, OrderStep, order_before, order_of_witness, record_at,
-};
+pub use order_steps::{OrderBefore, OrderExtent, OrderStep, order_before, order_of_witness};
 pub use reason::{Reason, ReasonLink, Unreported, shows};
 pub use subject::{Explained, Unexplained};
 pub use subjects::{Subject, Subjects};

@@ -126,7 +126,7 @@ fn acknowledged_above(
 fn count_to(writes: &[Acknowledged], pair: Pair) -> usize {
     let below = writes.partition_point(|write| write.pair.is_below(pair));
     match writes.get(below) {
-        Some(write) if write.pair == pair => below.saturating_add(1),
+        Some(write) if write.pair == pair => below + 1,
         _ => 0,
     }
 }

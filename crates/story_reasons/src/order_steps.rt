@@ -37,11 +37,6 @@ pub struct OrderBefore {
     pub steps: Vec<OrderStep>,
 }
 
-/// Returns the record of a place; there always is one, since the places of a witness are valid.
-pub fn record_at(witness: &DocWitness, place: &Place) -> Option<Rec> {
-    witness.records().get(place.rec).copied()
-}
-
 // Returns the step at a place, from this state and moment.
 fn step_from(state: DocState, point: usize, place: Place, record: Rec) -> OrderStep {
     let taken = place.pair.or(record.pair_taken());
@@ -63,8 +58,9 @@ fn last_steps(
     unreported: usize,
     most: usize,
 ) -> Result<OrderBefore, NoMemory> {
+    let places = witness.places();
     // If there are no more places than that, the first one is shown.
-    let first = witness.places().len().saturating_sub(most).max(unreported);
+    let first = places.len().saturating_sub(most).max(unreported);
     let mut state = DocState::Never;
     let mut point = 0usize;
     let mut order = OrderBefore {
@@ -72,17 +68,15 @@ fn last_steps(
         start: state,
         steps: Vec::new(alloc),
     };
-    for (i, place) in witness.places().iter().enumerate() {
+    for i in 0..places.len() {
         if i == first {
             order.start = state;
         }
-        if let Some(record) = record_at(witness, place) {
-            let step = step_from(state, point, *place, record);
-            state = step.state;
-            point = step.point;
-            if i >= first {
-                order.steps.push(step)?;
-            }
+        let step = step_from(state, point, places[i], witness.call(i));
+        state = step.state;
+        point = step.point;
+        if i >= first {
+            order.steps.push(step)?;
         }
     }
     Ok(order)

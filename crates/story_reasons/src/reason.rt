@@ -1,4 +1,4 @@
-ghost use Rattle.std.specs.Prelude.{IfOk, IfSome};
+ghost use Rattle.std.specs.Prelude.{◌<◌, IfOk, IfSome, length};
 ghost use Rattle.evidence.specs.Evidence.{IsDocumentRuledOut};
 
 use crate::calls::{EvidenceCalls, end_of, version_shown};
@@ -6,7 +6,7 @@ use crate::subject::Unexplained;
 use doc_register::Conflicts;
 use events::Rec;
 use evidence::{Refuted, is_document_ruled_out};
-use ruled_out::{Cause, Stage, Standing, Standings, Unhelpful, Unmet};
+use ruled_out::{Cause, Stage, Standings, Stop, Unhelpful, Unmet};
 use std::alloc::Global;
 use version_pair::{NoMemory, Pair};
 
@@ -88,8 +88,8 @@ impl Reason {
 }
 
 // Whether the cause is about what the document had reached when the call was made.
-fn is_bound(standings: &Standings, stop: Standing, cause: Cause) -> bool {
-    match cause {
+fn is_bound(standings: &Standings<'_>, stop: Stop) -> bool {
+    match stop.cause {
         Cause::StillThere(_)
         | Cause::NotThere
         | Cause::There
@@ -103,11 +103,11 @@ fn is_bound(standings: &Standings, stop: Standing, cause: Cause) -> bool {
 }
 
 // Returns the version that the cause mentions beside what the document had reached.
-fn version_spoken_of(standings: &Standings, stop: Rec, cause: Cause) -> Option<Pair> {
-    match cause {
+fn version_spoken_of(standings: &Standings<'_>, stop: Stop) -> Option<Pair> {
+    match stop.cause {
         Cause::WasThere(pair) | Cause::WasAbsent(pair) => standings.last_below(pair),
         Cause::Unmet(Unmet::Replaced(pair)) | Cause::Unwritten(pair) => Some(pair),
-        Cause::Unmet(Unmet::Deleted) => stop.op.condition(),
+        Cause::Unmet(Unmet::Deleted) => stop.call.op.condition(),
         _ => None,
     }
 }
@@ -129,26 +129,7 @@ fn shower_of(records: &[Rec], pair: Pair) -> Option<Rec> {
     None
 }
 
-// Returns the record of a standing. There always is one: the standings are of these records.
-fn record_of(records: &[Rec], standing: Standing) -> Option<Rec> {
-    records.get(standing.record).copied()
-}
-
-// Returns a standing as a link of a chain.
-fn link_of(standings: &Standings, standing: Standing, record: Rec) -> ReasonLink {
-    ReasonLink {
-        record,
-        from: standings.stage(standing.floor),
-        to: standings.stage(standing.earliest.unwrap_or(standing.floor)),
-    }
-}
-
-// Returns the standing that bounds another one.
-fn bounding(standings: &Standings, standing: Standing) -> Option<Standing> {
-    standings.standings().get(standing.bound?).copied()
-}
-
-// The calls that lead to a standing, the first one first.
+// The calls that lead to the call that has no position, the first one first.
 #[derive(Drop)]
 struct Chain {
     links: Vec<ReasonLink>,
@@ -156,33 +137,29 @@ struct Chain {
     is_cut: bool,
 }
 
-// Returns the chain that leads to the standing at which the walk stops, if the cause is about that; else an empty
-// one. It begins with a call whose reply shows the version, or with one that is bound by none.
-fn chain_to(
-    alloc: Global,
-    records: &[Rec],
-    standings: &Standings,
-    stop: Standing,
-    cause: Cause,
-) -> Result<Chain, NoMemory> {
+// Returns the chain that leads to the call that has no position, if the cause is about what the document had reached;
+// else an empty one. It begins with a call whose reply shows the version, or with one that was made before the document
+// was written.
+fn chain_to(alloc: Global, standings: &Standings<'_>, stop: Stop) -> Result<Chain, NoMemory> {
     let mut links = Vec::new(alloc);
-    let mut next = if is_bound(standings, stop, cause) {
-        bounding(standings, stop)
+    let mut next = if is_bound(standings, stop) {
+        standings.raised_to(stop.floor)
     } else {
         None
     };
     for _ in 0..MOST_LINKS {
-        let Some(standing) = next else {
+        let Some(raise) = next else {
             break;
         };
-        let Some(record) = record_of(records, standing) else {
-            break;
-        };
-        links.push(link_of(standings, standing, record))?;
-        next = if version_shown(&record).is_some() {
+        links.push(ReasonLink {
+            record: raise.call,
+            from: standings.stage(raise.floor),
+            to: standings.stage(raise.earliest),
+        })?;
+        next = if version_shown(&raise.call).is_some() {
             None
         } else {
-            bounding(standings, standing)
+            standings.raised_to(raise.floor)
         };
     }
     links.reverse();
@@ -195,33 +172,36 @@ fn chain_to(
 // Adds the write of this number if no reply says whether it was performed, and there is room.
 fn add_unreported(
     unreported: &mut Vec<Unreported>,
-    records: &[Rec],
-    standings: &Standings,
+    standings: &Standings<'_>,
+    stop: Stop,
     number: usize,
-) -> Result<(), NoMemory> {
-    if unreported.len() < MOST_LOST && standings.is_unreported(number) {
-        if let (Some(write), Some(why)) = (records.get(number), standings.unhelpful(number)) {
-            unreported.push(Unreported { write: *write, why })?;
+) -> Result<(), NoMemory>
+    requires { number < length standings.now.records.now }
+{
+    if unreported.len() < MOST_LOST {
+        if let Some(why) = standings.unhelpful(stop, number) {
+            let write = standings.records[number];
+            unreported.push(Unreported { write, why })?;
         }
     }
     Ok(())
 }
 
 // Returns the first few of the writes of which no reply says whether they were performed. Those that were made
-// last before the event come first.
+// last before the reply to the call that has no position come first.
 fn unreported_writes(
     alloc: Global,
-    records: &[Rec],
-    standings: &Standings,
-    event: usize,
+    standings: &Standings<'_>,
+    stop: Stop,
 ) -> Result<Vec<Unreported>, NoMemory> {
-    let early = records.partition_point(|record| record.call_at < event);
+    let records = standings.records;
+    let early = records.partition_point(|record| record.call_at < stop.reply_at);
     let mut unreported = Vec::new(alloc);
     for number in (0..early).rev() {
-        add_unreported(&mut unreported, records, standings, number)?;
+        add_unreported(&mut unreported, standings, stop, number)?;
     }
     for number in early..records.len() {
-        add_unreported(&mut unreported, records, standings, number)?;
+        add_unreported(&mut unreported, standings, stop, number)?;
     }
     Ok(unreported)
 }
@@ -238,37 +218,26 @@ fn is_reported(evidence: Option<Refuted>, no: u64) -> bool {
 fn reason_at(
     alloc: Global,
     evidence: Option<Refuted>,
-    records: &[Rec],
-    standings: &Standings,
-    (stop, cause): (Standing, Cause),
-    record: Rec,
+    standings: &Standings<'_>,
+    stop: Stop,
 ) -> Result<Reason, NoMemory> {
-    let event = end_of(&record);
-    let last = version_spoken_of(standings, record, cause);
+    let last = version_spoken_of(standings, stop);
     let shower = match last {
-        Some(pair) => shower_of(records, pair),
+        Some(pair) => shower_of(standings.records, pair),
         None => None,
     };
-    let mut unreported_count = 0usize;
-    for number in 0..records.len() {
-        if standings.is_unreported(number) {
-            // There are as many records at most, so the sum never reaches the greatest number.
-            unreported_count = unreported_count.saturating_add(1);
-        }
-    }
-    let Chain { links, is_cut } = chain_to(alloc, records, standings, stop, cause)?;
-    let unreported = unreported_writes(alloc, records, standings, event)?;
+    let Chain { links, is_cut } = chain_to(alloc, standings, stop)?;
     Ok(Reason {
-        stop: record,
-        cause,
+        stop: stop.call,
+        cause: stop.cause,
         stage: standings.stage(stop.floor),
         links,
         is_cut,
         last,
         shower,
-        unreported,
-        unreported_count,
-        is_reported: is_reported(evidence, record.no),
+        unreported: unreported_writes(alloc, standings, stop)?,
+        unreported_count: standings.unreported(),
+        is_reported: is_reported(evidence, stop.call.no),
     })
 }
 
@@ -281,14 +250,10 @@ pub fn found_reason(
     conflicts: Conflicts,
 ) -> Result<Option<Reason>, NoMemory> {
     let standings = Standings::of(alloc, records, conflicts)?;
-    let Some((stop, cause)) = standings.stop() else {
-        return Ok(None);
-    };
-    let Some(record) = record_of(records, stop) else {
-        return Ok(None);
-    };
-    let reason = reason_at(alloc, evidence, records, &standings, (stop, cause), record)?;
-    Ok(Some(reason))
+    match standings.stop() {
+        Some(stop) => Ok(Some(reason_at(alloc, evidence, &standings, stop)?)),
+        None => Ok(None),
+    }
 }
 
 /// Returns why no order explains the document of this number, with these records; `None` if it isn't ruled

@@ -6,28 +6,37 @@ use story_reasons::{CallKind, Explained, Terms, count_of, overlapping_of, terms_
 // The number of documents that are named.
 const MOST_NAMED: usize = 3;
 
-// The number of a document, from 0, and that of its calls.
+// A document: its number, from 0, and its order.
 #[derive(Clone, Copy)]
-struct Busy {
+struct Busy<'a> {
     doc: usize,
-    calls: usize,
+    witness: &'a DocWitness,
+}
+
+impl Busy<'_> {
+    // Returns the number of its calls.
+    fn calls(self) -> usize {
+        self.witness.records().len()
+    }
 }
 
 // Returns the document with the most calls, the first of several, after the one that was found last.
-fn busiest_after(witnesses: &[DocWitness], last: Option<Busy>) -> Option<Busy> {
-    let mut busiest: Option<Busy> = None;
+fn busiest_after<'a>(witnesses: &'a [DocWitness], last: Option<Busy<'a>>) -> Option<Busy<'a>> {
+    let mut busiest: Option<Busy<'a>> = None;
     for (doc, witness) in witnesses.iter().enumerate() {
-        let calls = witness.records().len();
+        let own = Busy { doc, witness };
         let is_left = match last {
-            Some(last) => calls < last.calls || calls == last.calls && doc > last.doc,
+            Some(last) => {
+                own.calls() < last.calls() || own.calls() == last.calls() && doc > last.doc
+            }
             None => true,
         };
         let is_busier = match busiest {
-            Some(busiest) => calls > busiest.calls,
+            Some(busiest) => own.calls() > busiest.calls(),
             None => true,
         };
         if is_left && is_busier {
-            busiest = Some(Busy { doc, calls });
+            busiest = Some(own);
         }
     }
     busiest
@@ -36,19 +45,17 @@ fn busiest_after(witnesses: &[DocWitness], last: Option<Busy>) -> Option<Busy> {
 // Adds the documents with the most calls, as an item.
 fn add_busiest(draft: &mut Draft<'_>, witnesses: &[DocWitness]) {
     draft.say(&["documents with the most calls:"], &[]);
-    let mut last: Option<Busy> = None;
+    let mut last = None;
     for i in 0..MOST_NAMED {
         let Some(busy) = busiest_after(witnesses, last) else {
             break;
         };
-        if let Some(witness) = witnesses.get(busy.doc) {
-            let template = if i == 0 {
-                " {} with {}"
-            } else {
-                ", {} with {}"
-            };
-            draft.say(&[template], &[Id(witness.id()), Count(busy.calls)]);
-        }
+        let template = if i == 0 {
+            " {} with {}"
+        } else {
+            ", {} with {}"
+        };
+        draft.say(&[template], &[Id(busy.witness.id()), Count(busy.calls())]);
         last = Some(busy);
     }
     draft.end_item();

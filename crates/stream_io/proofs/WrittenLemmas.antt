@@ -1,8 +1,7 @@
 -- An answer that was written, or a front of it.
-use Rattle.std.proofs.Common.{ℕ, ◌≡◌, List, length, take, sym, subst, arith, Option, Result, Ok, Err}
+use Rattle.std.proofs.Common.{ℕ, ◌≡◌, List, take, sym, subst, Option, Result, Ok, Err}
 use Rattle.std.specs.Prelude.{IfOk, IsErrOf, MatchResult}
 use Rattle.std.specs.Io.KnownBytes.{Appends}
-use Rattle.std.proofs.lemmas.List.{take_all}
 use Rattle.stream_io.specs.Written.{HasAnswer, HasPrefix}
 use Rattle.stream_io.specs.declared.status.Status.{Status}
 use Rattle.stream_io.specs.declared.stream_fault.StreamFault.{StreamFault}
@@ -19,8 +18,3 @@ pub wrote_front : (r : Result Status StreamFault) (P : Status → List ℕ → T
     → IsErrOf r Write → HasPrefix P old new
 wrote_front (Ok s) P old new status text written is cut = let impossible : Ok s ≡ Err Write = cut in absurd (cc)
 wrote_front (Err f) P old new status text written is cut = (status, text, written.1.0, written.1.1, is)
-
--- a text that is written whole is a front of itself
-pub whole_prefix : (P : Status → List ℕ → Type 0) (old new : Option (List ℕ)) (status : Status) (text : List ℕ) → Appends old new text → P status text → HasPrefix P old new
-whole_prefix P old new status text written is =
-    (status, text, length text, subst (Appends old new) (sym (take_all (length text) text (omega arith))) written, is)

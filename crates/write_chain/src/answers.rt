@@ -1,4 +1,4 @@
-ghost use Rattle.std.specs.Prelude.{◌≡◌, IfOk};
+ghost use Rattle.std.specs.Prelude.{◌≡◌, ◌<◌, All, IfOk, length};
 ghost use Rattle.write_chain.specs.AnsweredCalls.{AreAnsweredCalls, answers_from};
 
 use crate::nearly_ordered::sort_nearly_ordered;
@@ -17,7 +17,8 @@ pub struct AnsweredRec {
 
 // The answered calls in the order of their records.
 fn answered_calls(alloc: Global, records: &[Rec]) -> Result<Vec<AnsweredRec>, NoMemory>
-    ensures { IfOk result (λ answers. answers.items ≡ answers_from 0 records.now) }
+    ensures calls { IfOk result (λ answers. answers.items ≡ answers_from 0 records.now) }
+    ensures within { IfOk result (λ answers. All (λ answer. answer.rec < length records.now) answers.items) }
 {
     let mut answers = Vec::new(alloc);
     for k in 0..records.len() {
@@ -34,7 +35,9 @@ fn answered_calls(alloc: Global, records: &[Rec]) -> Result<Vec<AnsweredRec>, No
 /// Returns the answered calls in response order.
 pub fn answers_of(alloc: Global, records: &[Rec]) -> Result<Vec<AnsweredRec>, NoMemory>
     // They are the answered calls of the records, each once, in the order of their replies.
-    ensures { IfOk result (λ answers. AreAnsweredCalls records.now answers.items) }
+    ensures calls { IfOk result (λ answers. AreAnsweredCalls records.now answers.items) }
+    // Each number is that of a record.
+    ensures within { IfOk result (λ answers. All (λ answer. answer.rec < length records.now) answers.items) }
 {
     let mut answers = answered_calls(alloc, records)?;
     sort_nearly_ordered(&mut answers);

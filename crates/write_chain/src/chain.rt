@@ -1,4 +1,4 @@
-ghost use Rattle.std.specs.Prelude.{◌≡◌, ◌∷◌, ◌↔◌, IfOk, IsTrue, map};
+ghost use Rattle.std.specs.Prelude.{◌≡◌, ◌∷◌, ◌↔◌, ◌<◌, All, IfOk, IsTrue, length, map};
 ghost use Rattle.doc_register.specs.declared.state.DocState.TheVariants.{Never};
 ghost use Rattle.write_chain.specs.Chain.{IsChain, Rises, after_link, performed_records};
 
@@ -10,7 +10,8 @@ use version_pair::{NoMemory, Pair};
 
 // The performed answered writes in the order of their records, each as its pair and the number of its record.
 fn performed_by_pair(alloc: Global, records: &[Rec]) -> Result<Vec<(Pair, usize)>, NoMemory>
-    ensures { IfOk result (λ links. links.items ≡ performed_records 0 records.now) }
+    ensures links { IfOk result (λ links. links.items ≡ performed_records 0 records.now) }
+    ensures within { IfOk result (λ links. All (λ link. link.1 < length records.now) links.items) }
 {
     let mut links = Vec::new(alloc);
     for k in 0..records.len() {
@@ -24,7 +25,9 @@ fn performed_by_pair(alloc: Global, records: &[Rec]) -> Result<Vec<(Pair, usize)
 /// Returns the chain of a document: its performed answered writes, sorted by pair.
 pub fn chain_of(alloc: Global, records: &[Rec]) -> Result<Vec<(Pair, usize)>, NoMemory>
     // The chain has the performed answered writes of the records, each once, by pair and then by number.
-    ensures { IfOk result (λ chain. IsChain records.now chain.items) }
+    ensures chain { IfOk result (λ chain. IsChain records.now chain.items) }
+    // Each number is that of a record.
+    ensures within { IfOk result (λ chain. All (λ link. link.1 < length records.now) chain.items) }
 {
     let mut links = performed_by_pair(alloc, records)?;
     sort_nearly_ordered(&mut links);

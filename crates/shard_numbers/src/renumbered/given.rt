@@ -1,4 +1,4 @@
-use crate::taken::{pair_of_place, record_of};
+use crate::taken::pair_of_place;
 use doc_register::Op;
 use events::Rec;
 use places::DocWitness;
@@ -46,10 +46,10 @@ impl GivenPairs {
         for found in witness.records() {
             self.show(found_pair(*found));
         }
-        for place in witness.places() {
-            if pair_of_place(witness.records(), *place).is_some() {
-                let found = record_of(witness, *place);
-                self.show(found.and_then(|found| found.op.condition()));
+        let places = witness.places();
+        for i in 0..places.len() {
+            if pair_of_place(witness.records(), places[i]).is_some() {
+                self.show(witness.call(i).op.condition());
             }
         }
     }

@@ -1,5 +1,5 @@
 use crate::renumbered::gaps::{Gap, Gaps};
-use crate::taken::{pair_of_place, record_of};
+use crate::taken::pair_of_place;
 use crate::used_pairs::UsedPairs;
 use doc_register::Op;
 use events::{HashKeys, Rec};
@@ -77,9 +77,7 @@ impl Names {
         let mut present = None;
         let places = witness.places();
         for i in 0..places.len() {
-            let Some(found) = record_of(witness, places[i]) else {
-                return Ok(());
-            };
+            let found = witness.call(i);
             if pair_of_place(witness.records(), places[i]).is_some() {
                 let is_there = !matches!(found.op, Op::Delete { .. });
                 present = if is_there && places[i].pair.is_some() {

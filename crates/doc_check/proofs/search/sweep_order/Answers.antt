@@ -10,7 +10,7 @@ use Rattle.doc_check.proofs.search.sweep_order.Goals as goal
 
 pub returns-then-not-rises : goal.returns-then-not-rises
 returns-then-not-rises c = λ conflicts.
-    equal_pairs_none c.args.records.now c.in_ok-chain.chain.items c.in_ok-chain.ensures
+    equal_pairs_none c.args.records.now c.in_ok-chain.chain.items c.in_ok-chain.ensures.chain
     (λ rising. false≢true (sym c.if-not-rises.true ∙ c.rises.ensures.1 (subst Rises (sym c.deref.ensures.value) rising))) conflicts
 
 pub returns-in_ok-order_of-in-Some : goal.returns-in_ok-order_of-in-Some

@@ -1,14 +1,7 @@
-use Rattle.std.proofs.Common.{◌<◌, arith, true≢false, sym, subst, length}
+use Rattle.std.proofs.Common.{true≢false, sym, subst}
 use Rattle.evidence.specs.aids.CallsWithPairs.{IsFoundAs}
-use Rattle.evidence.proofs.EvidenceLemmas.{get_within, no_writer_reported, of_document, reply_within}
+use Rattle.evidence.proofs.EvidenceLemmas.{no_writer_reported, of_document}
 use Rattle.evidence.proofs.holding.has_no_writer.Goals as goal
-
-pub is_without_writer-requires-clause-get : goal.is_without_writer-requires-clause-get
-is_without_writer-requires-clause-get c = get_within c.args.history.now c.args.get c.in-Some.found c.in-Some.ensures
-
-pub is_without_writer-requires-clause-replied : goal.is_without_writer-requires-clause-replied
-is_without_writer-requires-clause-replied c =
-    let within : c.in-Some.found.replied < length c.args.history.now = reply_within c.args.history.now c.args.get c.in-Some.found c.requires c.in-Some.ensures in omega arith
 
 pub returns-in-Some : goal.returns-in-Some
 returns-in-Some c =

@@ -3,9 +3,6 @@ use Rattle.std.proofs.lemmas.Bool.{cases_lt}
 use Rattle.evidence.specs.Evidence.{IsWriter}
 use Rattle.evidence.proofs.holding.is_without_writer.Goals as goal
 
-pub loop-place-init : goal.loop-place-init
-loop-place-init c = λ d own j below. absurd (omega (arith, below))
-
 pub returns-then-is_writer : goal.returns-then-is_writer
 returns-then-is_writer c = λ d own. (
   λ never. absurd (true≢false (sym never)),

@@ -4,9 +4,6 @@ use Rattle.events.specs.Events.{documents_of}
 use Rattle.evidence.proofs.RuledOutLemmas.{all_documents, one_more}
 use Rattle.evidence.proofs.ruled_out_calls.least_ruled_out.Goals as goal
 
-pub loop-i-init : goal.loop-i-init
-loop-i-init c = λ n is i below. absurd (omega (arith, below))
-
 pub loop-i-preserved : goal.loop-i-preserved
 loop-i-preserved c =
     let within : c.loop-i.i < length c.args.docs.now = omega arith in

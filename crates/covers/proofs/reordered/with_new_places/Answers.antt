@@ -3,7 +3,7 @@ use Rattle.std.specs.Prelude.{IfSome}
 use Rattle.covers.specs.aids.Searched.{AreAlike, IsAlike}
 use Rattle.covers.proofs.FoundLemmas.{alike_snoc}
 use Rattle.covers.proofs.Yielded.{all_given, next_given}
-use Rattle.covers.proofs.reordered.with_all.Goals as goal
+use Rattle.covers.proofs.reordered.with_new_places.Goals as goal
 
 pub loop-witness-init : goal.loop-witness-init
 loop-witness-init c = (

@@ -1,18 +1,30 @@
+use crate::cause::Cause;
 use crate::known::Known;
+use events::Rec;
 use version_pair::Pair;
 
-/// The earliest position of an answered call of a document, for people. No contract covers it.
-#[derive(Clone, Copy, Debug, PartialEq, Eq)]
-pub struct Standing {
-    /// The number of its record, from 0.
-    pub record: usize,
+/// An answered call that brought the document to a greater position than all calls before it, in response order.
+#[derive(Clone, Copy)]
+pub struct Raise {
+    pub call: Rec,
     /// The position that the document had reached when the call was made.
     pub floor: usize,
-    /// Which of the standings first brought the document to that position; `None` if it was still at position
-    /// 0.
-    pub bound: Option<usize>,
-    /// Its earliest position; `None` if it has none, so that the document is ruled out at it.
-    pub earliest: Option<usize>,
+    /// The earliest position of the call.
+    pub earliest: usize,
+    /// The position to which it brought the document.
+    pub reached: usize,
+}
+
+/// The answered call that has no position, so that the document is ruled out at it.
+#[derive(Clone, Copy)]
+pub struct Stop {
+    pub call: Rec,
+    /// The position of its reply.
+    pub reply_at: usize,
+    /// The position that the document had reached when the call was made.
+    pub floor: usize,
+    /// Why it has no position.
+    pub cause: Cause,
 }
 
 /// The state of a document at a position, as far as it is known.

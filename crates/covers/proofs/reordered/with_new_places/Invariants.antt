@@ -1,6 +1,6 @@
 use Rattle.std.proofs.Common.{◌≡◌, ◌++◌}
 use Rattle.covers.specs.aids.Searched.{AreAlike}
-use Rattle.covers.proofs.reordered.with_reordered.Given as goal
+use Rattle.covers.proofs.reordered.with_new_places.Given as goal
 
 abbrev pub invariant-loop-witness : goal.invariant-loop-witness
 invariant-loop-witness l =
