@@ -16,7 +16,7 @@ use Rattle.places.specs.Laws.{ArePlacedBy}
 use Rattle.places.specs.Documents.{DocPlaces}
 use Rattle.covers.specs.Covers.{AreCover, IsEntered}
 use Rattle.compose.specs.Laws.{CoversExplain, IsOrderOf}
-use Rattle.compose.proofs.CalledDocuments.{call_document}
+use Rattle.events.proofs.CalledDocuments.{call_document}
 use Rattle.compose.proofs.Filtering.{rank, rank_at, rank_once}
 use Rattle.compose.proofs.Gathering.{AreGathered, gathered}
 use Rattle.compose.proofs.Points.{Pointed, call_place, called_there, in_order, is_of, part, part_placed, placed_at, placed_of, pointed_at}

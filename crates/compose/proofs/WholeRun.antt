@@ -18,7 +18,7 @@ use Rattle.places.proofs.DocumentLaws.{reported_by}
 use Rattle.covers.specs.Covers.{AreCover, IsOfShard, IsTakenAt}
 use Rattle.events.specs.Heard.{taken_by}
 use Rattle.covers.proofs.TakenPlaces.{taken_parts}
-use Rattle.compose.proofs.CalledDocuments.{document_called}
+use Rattle.events.proofs.CalledDocuments.{document_called}
 use Rattle.compose.proofs.Filtering.{filter_all, part_from, rank, rank_once}
 use Rattle.compose.proofs.Gathering.{AreGathered, IsPartOf}
 use Rattle.compose.proofs.Points.{Pointed, is_of, part, part_run, placed_at, placed_of}

@@ -58,6 +58,7 @@ abbrev pub Says : Conflicts → List Event → Option Refuted → ℕ → Certai
 Says conflicts events (Some (evidence.PairTwice a b)) n said = said ≡ certainty.Evident
 Says conflicts events (Some (evidence.NoWriter g)) n said = said ≡ certainty.Evident
 Says conflicts events (Some (evidence.StaleGet g w)) n said = said ≡ certainty.Evident
+Says conflicts events (Some (evidence.MissedWrite g w)) n said = said ≡ certainty.Evident
 Says conflicts events (Some (evidence.StaleSwap a b)) n said = said ≡ certainty.Evident
 Says conflicts events (Some (evidence.RuledOut m)) n said = said ≡ certainty.ReportedRuledOut
 Says conflicts events None n said = SaysOfCall conflicts events n said

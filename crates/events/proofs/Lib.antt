@@ -20,3 +20,4 @@ mod CutLemmas
 mod FrontLemmas
 mod LateCalls
 pub mod TakenPairLemmas
+pub mod CalledDocuments

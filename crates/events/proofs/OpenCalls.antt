@@ -75,11 +75,25 @@ closed H n f later opens = by_places (place_of (is_call n) H) (place_of (is_endi
       ∙ sym (ap (λ o. option_map_or (λ op. when_ended H n (later op)) o (Some NoCall)) op.1 ∙ ap (λ o. if is_some o then Some Ended else later op.0) ending)
   by_places (Some j) None call ending is = absurd (cc)
 
+-- the reason why no ending can be added is one that is reported
+closed_is : (H : List Event) (n : ℕ) (f : HistFault) → open_call_of H n ≡ Err f → reason_reported f ≡ Some f
+closed_is H n f opens = by_places (place_of (is_call n) H) (place_of (is_ending n) H) opens where
+  by_places : (c p : Option ℕ) → opened c p ≡ Err f → reason_reported f ≡ Some f
+  by_places None p is = let same : NoCall ≡ f = cc in ap reason_reported (sym same) ∙ ap (λ g. Some g) same
+  by_places (Some j) (Some k) is = let same : Ended ≡ f = cc in ap reason_reported (sym same) ∙ ap (λ g. Some g) same
+  by_places (Some j) None is = absurd (cc)
+
 pub closed_reply : (H : List Event) (n : ℕ) (r : Answer) (f : HistFault) → open_call_of H n ≡ Err f → reason_reported f ≡ refusal_of H (Reply n r)
 closed_reply H n r f opens = closed H n f (λ op. if fits op r then when_full H else Some Kind) opens
 
 pub closed_lost : (H : List Event) (n : ℕ) (f : HistFault) → open_call_of H n ≡ Err f → reason_reported f ≡ refusal_of H (Lost n)
 closed_lost H n f opens = closed H n f (λ op. when_full H) opens
+
+pub reply_kept_out : (H : List Event) (n : ℕ) (r : Answer) (f : HistFault) → open_call_of H n ≡ Err f → Some f ≡ refusal_of H (Reply n r)
+reply_kept_out H n r f opens = sym (closed_is H n f opens) ∙ closed_reply H n r f opens
+
+pub loss_kept_out : (H : List Event) (n : ℕ) (f : HistFault) → open_call_of H n ≡ Err f → Some f ≡ refusal_of H (Lost n)
+loss_kept_out H n f opens = sym (closed_is H n f opens) ∙ closed_lost H n f opens
 
 -- a call that isn't there has no ending
 pub no_ending_uncalled : (H : List Event) (n : ℕ) → IsHistory H → place_of (is_call n) H ≡ None → place_of (is_ending n) H ≡ None

@@ -30,10 +30,13 @@ impl Event {
 }
 
 impl History {
-    // Adds an event that the history does not refuse. It fails only if memory is refused.
-    fn push_accepted(&mut self, event: Event) -> Result<(), NoMemory>
+    /// Adds an event that the history does not refuse. It fails only if memory is refused.
+    pub fn push_accepted(&mut self, event: Event) -> Result<(), NoMemory>
+        // The history has no reason to refuse it.
         requires accepted { refusal_of self.old event ≡ None }
+        // The shard of a call is 0 to 1,023.
         requires shard { HasShard event }
+        // The event is added at the end.
         ensures { OnOk result (self.new ≡ self.old ++ event ∷ []) }
     {
         match self.push(event) {

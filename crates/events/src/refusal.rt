@@ -1,5 +1,5 @@
 ghost use Rattle.doc_register.specs.declared.op.Op.{Op};
-ghost use Rattle.events.specs.declared.event.Event.TheVariants.{Call};
+ghost use Rattle.events.specs.declared.event.Event.TheVariants.{Call, Reply as Answered, Lost};
 ghost use Rattle.std.specs.Prelude.{◌≡◌, ◌<◌, length, position};
 ghost use Rattle.events.specs.Events.{documents_of, is_same};
 ghost use Rattle.events.specs.Refusal.{open_call_of, refusal_of, when_full};
@@ -65,6 +65,45 @@ impl History {
         match self.event(place) {
             Event::Call { op, .. } => reply.fits(*op),
             Event::Reply { .. } | Event::Lost { .. } => false,
+        }
+    }
+
+    // The reason to refuse a reply, if there is one.
+    fn reply_refusal(&self, no: u64, reply: &Reply) -> Option<HistFault>
+        ensures { result ≡ refusal_of self.now (Answered no reply.now) }
+    {
+        match self.open_call(no) {
+            Err(fault) => Some(fault),
+            Ok(call) => if self.is_answerable(call, reply) {
+                self.refusal_for_room()
+            } else {
+                Some(HistFault::Kind)
+            },
+        }
+    }
+
+    // The reason to refuse the event that a call is lost, if there is one.
+    fn loss_refusal(&self, no: u64) -> Option<HistFault>
+        ensures { result ≡ refusal_of self.now (Lost no) }
+    {
+        match self.open_call(no) {
+            Err(fault) => Some(fault),
+            Ok(_) => self.refusal_for_room(),
+        }
+    }
+
+    /// Returns the reason to refuse an event, the first that holds; `None` if it can be added.
+    pub fn refusal(&self, event: &Event) -> Option<HistFault>
+        // It is the reason, or none, that the definition gives.
+        ensures { result ≡ refusal_of self.now event.now }
+    {
+        match event {
+            Event::Call { no, shard, id, .. } => {
+                let id = id.text();
+                self.call_refusal(self.doc_of_text(&id), *no, *shard, &id)
+            }
+            Event::Reply { no, reply } => self.reply_refusal(*no, reply),
+            Event::Lost { no } => self.loss_refusal(*no),
         }
     }
 }
