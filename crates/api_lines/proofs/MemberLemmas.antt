@@ -96,6 +96,7 @@ line_each name d line = record {
   if_primary_term = field_with (codes "if_primary_term") name d line.if_primary_term;
   shard = field_with (codes "shard") name d line.shard;
   status = field_with (codes "status") name d line.status;
+  void = field_with (codes "void") name d line.void;
   body = if bytes_eq name (codes "body") then body_values d else line.body;
 }
 
@@ -111,6 +112,7 @@ line_each-put name d ms =
       field-put name d ms (codes "if_primary_term"),
       field-put name d ms (codes "shard"),
       field-put name d ms (codes "status"),
+      field-put name d ms (codes "void"),
       body_of-put name d ms,
     ) refl
 
@@ -126,7 +128,8 @@ line_each-line_with name d line =
     by_key (λ w. line_each w d line ≡ line_with w d line) name (codes "if_primary_term") refl (λ no_term.
     by_key (λ w. line_each w d line ≡ line_with w d line) name (codes "shard") refl (λ no_shard.
     by_key (λ w. line_each w d line ≡ line_with w d line) name (codes "status") refl (λ no_status.
-    rw (no_body, no_e, no_n, no_id, no_op, no_k, no_seq, no_term, no_shard, no_status) refl))))))))))
+    by_key (λ w. line_each w d line ≡ line_with w d line) name (codes "void") refl (λ no_void.
+    rw (no_body, no_e, no_n, no_id, no_op, no_k, no_seq, no_term, no_shard, no_status, no_void) refl)))))))))))
 
 -- the last of a repeated key counts
 pub line_values-put : (name : List ℕ) (d : Data) (ms : Members) → line_values (object (put name d ms)) ≡ line_with name d (line_values (object ms))

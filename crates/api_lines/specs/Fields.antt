@@ -51,6 +51,7 @@ pub record LineValues : Type 0 where
   pub if_primary_term : FieldValue
   pub shard : FieldValue
   pub status : FieldValue
+  pub void : FieldValue
   -- the fields of its body
   pub body : BodyValues
 
@@ -71,6 +72,7 @@ line_values v = record {
   if_primary_term = field (codes "if_primary_term") v;
   shard = field (codes "shard") v;
   status = field (codes "status") v;
+  void = field (codes "void") v;
   body = body_values (body_of v);
 }
 
@@ -110,5 +112,6 @@ line_seen l = record {
   if_primary_term = value_of l.if_primary_term;
   shard = value_of l.shard;
   status = value_of l.status;
+  void = value_of l.void;
   body = body_seen l.body;
 }

@@ -1,6 +1,6 @@
 -- What a line of a history text says by itself, or the first cause to refuse it. Kinds are checked before
 -- values.
-use Rattle.std.specs.Prelude.{ℕ, ◌^◌, List, Option, Some, None, nat_lt, codes, Result, Ok, Err, if◌then◌else◌}
+use Rattle.std.specs.Prelude.{ℕ, ◌^◌, Bool, List, Option, Some, None, nat_lt, codes, Result, Ok, Err, if◌then◌else◌}
 use Rattle.std.specs.Str.{bytes_eq}
 use Rattle.doc_register.specs.declared.op.Op.{Op}
 use Rattle.doc_register.specs.declared.op.Op.TheVariants.{Get, Index, Delete, Create}
@@ -8,7 +8,7 @@ use Rattle.version_pair.specs.Shards.{most_shards}
 use Rattle.api_lines.specs.Faults.{◌>>=◌}
 use Rattle.api_lines.specs.Fields.{LineValues}
 use Rattle.api_lines.specs.Ids.{id_parsed}
-use Rattle.api_lines.specs.Kinds.{optional_number, required_number, required_text}
+use Rattle.api_lines.specs.Kinds.{is_text, optional_number, optional_truth, required_number, required_text}
 use Rattle.api_lines.specs.Pairs.{pair_parsed, whole_parsed}
 use Rattle.api_lines.specs.declared.history_line.OpNumbers.{OpNumbers}
 use Rattle.api_lines.specs.declared.history_line.OpNumbers.TheVariants as numbers
@@ -127,6 +127,13 @@ lost_parsed line = do
   number ← required_number line.n
   n ← whole_parsed number
   Ok (Lost n)
+
+-- What a lost line says by its field `void`: true if nothing was performed, and nothing if the field is absent;
+-- Shape if it is neither true nor false. It is a kind, so it is checked before the values of the line. On other
+-- lines the field doesn't count.
+-- Source: profile.
+abbrev pub void_parsed : LineValues → Result (Option Bool) TextCause
+void_parsed line = if is_text (codes "lost") line.e then optional_truth line.void else Ok None
 
 -- the line of this name: "call", "reply" or "lost"; another name is Shape
 -- Source: profile.

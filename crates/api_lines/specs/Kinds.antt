@@ -37,6 +37,16 @@ required_text (text t) = Ok t
 required_text (truth b) = Err Shape
 required_text other = Err Shape
 
+-- the truth value of a field that may be absent; Shape if it is of another kind
+-- Source: profile.
+abbrev pub optional_truth : FieldValue → Result (Option Bool) TextCause
+optional_truth absent = Ok None
+optional_truth (whole n) = Err Shape
+optional_truth not_whole = Err Shape
+optional_truth (text t) = Err Shape
+optional_truth (truth b) = Ok (Some b)
+optional_truth other = Err Shape
+
 -- the field is this text
 abbrev pub is_text : List ℕ → FieldValue → Bool
 is_text t absent = false

@@ -3,7 +3,7 @@ ghost use Rattle.serde_json.specs.Data.{boolean};
 ghost use Rattle.serde_json.specs.View.{view};
 ghost use Rattle.api_lines.specs.Fields.{inner_field, value_of};
 ghost use Rattle.api_lines.specs.Json.{field, field_value};
-ghost use Rattle.api_lines.specs.Kinds.{is_text, is_truth, optional_number, required_number, required_text};
+ghost use Rattle.api_lines.specs.Kinds.{is_text, is_truth, optional_number, optional_truth, required_number, required_text};
 
 use crate::number::Number;
 use crate::text_fault::TextCause;
@@ -66,6 +66,22 @@ impl<'v> Field<'v> {
         match self {
             Field::Text(text) => Ok(text),
             _ => Err(TextCause::Shape),
+        }
+    }
+
+    /// Returns a truth value that may be absent. Errors: `Shape` for another kind.
+    pub fn optional_bool(self) -> Result<Option<bool>, TextCause>
+        // It is the truth value of the field, or `None` if the field is absent; the error is `Shape`, exactly
+        // if the field is of another kind.
+        ensures { result ≡ optional_truth (value_of self.entry) }
+    {
+        match self {
+            Field::Absent => Ok(None),
+            Field::True => Ok(Some(true)),
+            Field::False => Ok(Some(false)),
+            Field::Whole(_) | Field::NotWhole | Field::Text(_) | Field::Other => Err(
+                TextCause::Shape,
+            ),
         }
     }
 

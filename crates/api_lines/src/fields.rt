@@ -37,6 +37,7 @@ pub struct LineFields<'v> {
     pub if_primary_term: Field<'v>,
     pub shard: Field<'v>,
     pub status: Field<'v>,
+    pub void: Field<'v>,
     pub body: BodyFields<'v>,
 }
 
@@ -85,6 +86,7 @@ impl<'v> LineFields<'v> {
             if_primary_term: Field::Absent,
             shard: Field::Absent,
             status: Field::Absent,
+            void: Field::Absent,
             body: no_body(),
         }
     }
@@ -114,6 +116,7 @@ pub fn line_fields(value: &Value) -> LineFields<'_>
         if_primary_term: field_of(value, "if_primary_term"),
         shard: field_of(value, "shard"),
         status: field_of(value, "status"),
+        void: field_of(value, "void"),
         body: body_of_line(value),
     }
 }

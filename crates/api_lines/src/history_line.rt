@@ -1,6 +1,6 @@
 ghost use Rattle.std.specs.Prelude.{◌≡◌};
 ghost use Rattle.api_lines.specs.Fields.{line_seen};
-ghost use Rattle.api_lines.specs.HistoryLines.{call_parsed, line_parsed, lost_parsed, op_numbers as numbers_of_line, op_parsed, reply_parsed, shard_parsed, status_parsed};
+ghost use Rattle.api_lines.specs.HistoryLines.{call_parsed, line_parsed, lost_parsed, op_numbers as numbers_of_line, op_parsed, reply_parsed, shard_parsed, status_parsed, void_parsed};
 
 use crate::fields::LineFields;
 use crate::ids::document_id;
@@ -159,6 +159,20 @@ pub fn lost_of<'l>(line: &LineFields<'l>) -> Result<LineSaid<'l>, TextCause>
     let number = line.n.required_number()?;
     let no = number.whole()?;
     Ok(LineSaid::Lost { no })
+}
+
+/// Returns what a lost line says of being void, that is, of nothing having been performed: `None` if it does
+/// not say, and of any other line. `line_said` ignores this field. Errors: `Shape` if it is neither true nor
+/// false.
+pub fn void_of(line: &LineFields<'_>) -> Result<Option<bool>, TextCause>
+    // What is said or the cause is that of the definition.
+    ensures { result ≡ void_parsed (line_seen line.now) }
+{
+    if line.e.is_text("lost") {
+        line.void.optional_bool()
+    } else {
+        Ok(None)
+    }
 }
 
 /// Returns what a line of a history text says by itself. Errors, in this order: `Shape` for all fields that

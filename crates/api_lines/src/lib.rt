@@ -40,7 +40,7 @@ pub use chunk::{CHUNK, Chunk};
 pub use field::{Field, field_of, inner_field_of};
 pub use fields::{BodyFields, LineFields, body_fields, line_fields};
 pub use given::{given_fields, given_line};
-pub use history_line::{LineSaid, call_of, line_said, lost_of, reply_of};
+pub use history_line::{LineSaid, call_of, line_said, lost_of, reply_of, void_of};
 pub use ids::document_id;
 pub use line_input::{InputFault, next_line};
 pub use line_object::LineObject;

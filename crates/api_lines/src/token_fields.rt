@@ -93,8 +93,8 @@ impl<'v> BodyFields<'v> {
 }
 
 impl<'v> LineFields<'v> {
-    // Takes the member of this name, whose value is next: a part of a condition, a shard, a status, or a field
-    // that isn't one of the line.
+    // Takes the member of this name, whose value is next: a part of a condition, a shard, a status, what a lost
+    // line says of being void, or a field that isn't one of the line.
     fn take_rare<T: TokenReader<'v>>(&mut self, name: &str, tokens: &mut T) -> Option<()>
         ensures read { OnSome result ((d : Data)
             × BeginsWithValue IN_LINE (T.left tokens.old) d (T.left tokens.new)
@@ -106,6 +106,7 @@ impl<'v> LineFields<'v> {
             "if_primary_term" => tokens.field(IN_LINE, &mut self.if_primary_term),
             "shard" => tokens.field(IN_LINE, &mut self.shard),
             "status" => tokens.field(IN_LINE, &mut self.status),
+            "void" => tokens.field(IN_LINE, &mut self.void),
             _ => pass(tokens, IN_LINE),
         }
     }

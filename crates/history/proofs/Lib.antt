@@ -3,6 +3,10 @@ pub mod TextLengths
 mod SaidLines
 mod TextReading
 mod TextLaws
+mod RuledLines
+mod StrictTexts
+mod RuledTexts
+mod RuledInput
 mod CallLines
 mod WrittenText
 mod BulkTextLemmas

@@ -33,7 +33,7 @@ same_events G H is = cc
 -- ---- what is read is spelled
 
 -- one more event, which isn't refused
-added : (G H : List Event) (e : Event) → adds G e ≡ Ok H → (refusal_of G e ≡ None) × (H ≡ G ++ e ∷ [])
+pub added : (G H : List Event) (e : Event) → adds G e ≡ Ok H → (refusal_of G e ≡ None) × (H ≡ G ++ e ∷ [])
 added G H e is = by_refusal (refusal_of G e) refl is where
   by_refusal : (o : Option HistFault) → refusal_of G e ≡ o → with_more G e o ≡ Ok H → (refusal_of G e ≡ None) × (H ≡ G ++ e ∷ [])
   by_refusal None found is = (found, sym (same_events (G ++ e ∷ []) H is))

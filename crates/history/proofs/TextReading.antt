@@ -13,7 +13,6 @@ use Rattle.api_lines.specs.HistoryLines.{call_parsed, line_parsed, lost_parsed, 
 use Rattle.api_lines.specs.Json.{text, whole}
 use Rattle.api_lines.specs.Kinds.{required_text}
 use Rattle.api_lines.specs.ReplyTable.{IsHeard, IsStranger, heard}
-use Rattle.api_lines.specs.Texts.{line_given, read_line, taken}
 use Rattle.api_lines.specs.declared.history_line.LineSaid.{LineSaid}
 use Rattle.api_lines.specs.declared.history_line.LineSaid.TheVariants as said
 use Rattle.api_lines.specs.declared.reply_table.Heard.{Heard}
@@ -28,9 +27,10 @@ use Rattle.events.specs.Events.{HasShard, IsCallAt, is_call, is_ending, place_of
 use Rattle.events.specs.declared.fault.HistFault.{HistFault}
 use Rattle.events.specs.declared.fault.HistFault.TheVariants as event
 use Rattle.history.specs.Faults.{line_fault}
-use Rattle.history.specs.Reading.{adds, ending_parsed, event_heard, event_said, event_parsed, heard_of_call, takes_line, takes_value, with_more}
+use Rattle.history.specs.Reading.{adds, ending_parsed, event_heard, event_said, event_parsed, heard_of_call, with_more}
 use Rattle.events.specs.Refusal.{first_event, open_call_of, opened, refusal_of, refusal_reported}
 use Rattle.api_lines.specs.declared.text_fault.LineFault.{LineFault}
+use Rattle.api_lines.specs.declared.text_fault.LineFault.TheVariants as line
 use Rattle.history.specs.aids.Taking.{HasSaidShard, line_result, takes_reply, takes_said}
 use Rattle.history.specs.Text.{Spells, SpellsReply}
 use Rattle.history.proofs.SaidLines.{call_is, call_shard, call_spelled, lost_read, lost_said, named, ok_of, reply_read, reply_said, same_ok, spelled_call, text_read}
@@ -249,27 +249,38 @@ reply_open H n i status body e opens at = by_places (place_of (is_call n) H) (pl
       ∙ (ap (λ o. ending_parsed n status body (slice_get H j) o) ending
       ∙ (ap (λ k. ending_parsed n status body (slice_get H k) None) same ∙ ap (λ o. ending_parsed n status body o None) at))
 
-pub reply_closed : (H : List Event) (n status : ℕ) (body : BodyValues) (f : HistFault) → open_call_of H n ≡ Err f
-    → IfReported (line_fault f) (λ cause. takes_said H body (said.Reply n status) ≡ Err cause)
-reply_closed H n status body f opens = by_places (place_of (is_call n) H) (place_of (is_ending n) H) refl refl opens where
+pub reply_not_open : (H : List Event) (n status : ℕ) (body : BodyValues) (f : HistFault) → open_call_of H n ≡ Err f
+    → IfReported (line_fault f) (λ cause. event_said H body (said.Reply n status) ≡ Err cause)
+reply_not_open H n status body f opens = by_places (place_of (is_call n) H) (place_of (is_ending n) H) refl refl opens where
   by_places : (c p : Option ℕ) → place_of (is_call n) H ≡ c → place_of (is_ending n) H ≡ p → opened c p ≡ Err f
-      → IfReported (line_fault f) (λ cause. takes_said H body (said.Reply n status) ≡ Err cause)
+      → IfReported (line_fault f) (λ cause. event_said H body (said.Reply n status) ≡ Err cause)
   by_places None p call ending is =
       let same : event.NoCall ≡ f = cc in
-      subst (λ g. IfReported (line_fault g) (λ cause. takes_said H body (said.Reply n status) ≡ Err cause)) same
-      (ap (λ o. ending_parsed n status body (option_and_then (slice_get H) o) (place_of (is_ending n) H) >>= adds H) call)
+      subst (λ g. IfReported (line_fault g) (λ cause. event_said H body (said.Reply n status) ≡ Err cause)) same
+      (ap (λ o. ending_parsed n status body (option_and_then (slice_get H) o) (place_of (is_ending n) H)) call)
   by_places (Some j) (Some k) call ending is =
       let same : event.Ended ≡ f = cc in
-      subst (λ g. IfReported (line_fault g) (λ cause. takes_said H body (said.Reply n status) ≡ Err cause)) same
+      subst (λ g. IfReported (line_fault g) (λ cause. event_said H body (said.Reply n status) ≡ Err cause)) same
       (by_event (slice_get H j) refl) where
-        by_event : (o : Option Event) → slice_get H j ≡ o → takes_said H body (said.Reply n status) ≡ Err Ended
+        by_event : (o : Option Event) → slice_get H j ≡ o → event_said H body (said.Reply n status) ≡ Err Ended
         by_event (Some x) at =
-            ap (λ o. ending_parsed n status body (option_and_then (slice_get H) o) (place_of (is_ending n) H) >>= adds H) call
-            ∙ (ap (λ o. ending_parsed n status body (slice_get H j) o >>= adds H) ending ∙ ap (λ o. ending_parsed n status body o (Some k) >>= adds H) at)
+            ap (λ o. ending_parsed n status body (option_and_then (slice_get H) o) (place_of (is_ending n) H)) call
+            ∙ (ap (λ o. ending_parsed n status body (slice_get H j) o) ending ∙ ap (λ o. ending_parsed n status body o (Some k)) at)
         by_event None at =
             let x = passes_element (is_call n) H j (place_of-passes (is_call n) H j call) in
             absurd (none_is_not_some x.0 (sym at ∙ x.1))
   by_places (Some j) None call ending is = absurd (cc)
+
+-- what holds of a cause that is reported
+pub IfReported-map : (P Q : TextCause → Type 0) (fault : LineFault) → ((cause : TextCause) → P cause → Q cause) → IfReported fault P → IfReported fault Q
+IfReported-map P Q (line.Reported cause) f is = f cause is
+IfReported-map P Q line.NoMemory f is = tt
+
+pub reply_closed : (H : List Event) (n status : ℕ) (body : BodyValues) (f : HistFault) → open_call_of H n ≡ Err f
+    → IfReported (line_fault f) (λ cause. takes_said H body (said.Reply n status) ≡ Err cause)
+reply_closed H n status body f opens =
+    IfReported-map (λ cause. event_said H body (said.Reply n status) ≡ Err cause) (λ cause. takes_said H body (said.Reply n status) ≡ Err cause)
+    (line_fault f) (λ cause is. ap (λ r. r >>= adds H) is) (reply_not_open H n status body f opens)
 
 -- a reply line that is taken by what is heard of its open call
 pub reply_taken : (H : List Event) (n i status : ℕ) (body : BodyValues) (e : Event) (w : Heard) → open_call_of H n ≡ Ok i → slice_get H i ≡ Some e
@@ -285,9 +296,3 @@ pub answer_refused : (H : List Event) (n i status : ℕ) (body : BodyValues) (e 
 answer_refused H n i status body e r pushed answer opens at reports is reason =
     subst (λ t. IfErr answer (λ fault. IfReported fault (λ cause. t ≡ Err cause))) (sym (reply_taken H n i status body e (heard.Reply r) opens at reports))
     (line_err H (Reply n r) pushed answer is reason)
-
--- ---- a line of these fields
-
-pub line_taken : (n : ℕ) (events : List Event) (line : List ℕ) (v : Data) (fields : LineValues) → line_given n line ≡ Ok (Some v) → fields ≡ line_values v
-    → read_line takes_value n events line ≡ takes_line events fields
-line_taken n events line v fields given seen = ap (λ r. r >>= taken takes_value events) given ∙ ap (takes_line events) (sym seen)

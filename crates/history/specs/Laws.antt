@@ -1,11 +1,17 @@
 -- Laws of history texts.
-use Rattle.std.specs.Prelude.{◌≡◌, ◌<◌, ℕ, List, [], ◌≤◌, Ok, Err, take}
+use Rattle.std.specs.Prelude.{◌≡◌, ◌<◌, ℕ, List, [], ◌≤◌, Contains, Result, Ok, Err, Some, slice_get, take}
 use Rattle.api_lines.specs.Lines.{lines_of}
 use Rattle.api_lines.specs.Texts.{ReadsLineByLine}
 use Rattle.api_lines.specs.declared.text_fault.TextFault.{TextFault}
+use Rattle.events.specs.Events.{IsPending}
+use Rattle.events.specs.Refusal.{most_events}
 use Rattle.events.specs.declared.event.Event.{Event}
+use Rattle.events.specs.declared.event.Event.TheVariants.{Lost}
+use Rattle.history.specs.ByRules.{history_text_by, room_taken, start_by, strict_rules, takes_value_by}
 use Rattle.history.specs.Reading.{history_text, takes_value}
 use Rattle.history.specs.Text.{IsHistoryText}
+use Rattle.history.specs.declared.text_read.TextRead.{TextRead}
+use Rattle.history.specs.declared.text_rules.TextRules.{TextRules}
 
 -- a text is the text of one history at most
 -- Source: profile.
@@ -42,3 +48,38 @@ pub record TextsAreRead : Type 0 where
 -- Source: profile.
 abbrev pub HistoriesLineByLine : Type 0
 HistoriesLineByLine = ReadsLineByLine takes_value []
+
+-- ---- texts that are read by rules
+
+-- what is read by the strict rules: the events, and no number of a lost call
+abbrev pub without_voids : Result (List Event) TextFault → Result TextRead TextFault
+without_voids (Ok events) = Ok (record { history = events; voids = [] })
+without_voids (Err reported) = Err reported
+
+-- the call numbered n is lost: it's there, has no reply, and its ending is that its outcome is lost
+pub record IsLostCall (events : List Event) (n : ℕ) : Type 0 where
+  -- it's there, and has no reply
+  pub pending : IsPending events n
+  -- its ending
+  pub lost : (i : ℕ) × (slice_get events i ≡ Some (Lost n))
+
+-- these are numbers of lost calls
+abbrev pub AreLost : List Event → List ℕ → Type 0
+AreLost events numbers = (n : ℕ) → Contains numbers n → IsLostCall events n
+
+-- What the rules leave as it is. By the strict rules a text is read as `history_text` reads it.
+-- Source: profile.
+pub record TextsAreReadByRules : Type 0 where
+  -- by the strict rules the events, or the refused line, are those of `history_text`, and there is no number
+  pub strict : (bytes : List ℕ) → history_text_by strict_rules bytes ≡ without_voids (history_text bytes)
+  -- by any rules the text is a history text of the events
+  pub read : (rules : TextRules) (bytes : List ℕ) (read : TextRead) → history_text_by rules bytes ≡ Ok read → IsHistoryText bytes read.history
+  -- the numbers are of lost calls of these events
+  pub voids : (rules : TextRules) (bytes : List ℕ) (read : TextRead) → history_text_by rules bytes ≡ Ok read → AreLost read.history read.voids
+  -- the events take the room of 1,048,576 at most
+  pub room : (rules : TextRules) (bytes : List ℕ) (read : TextRead) → history_text_by rules bytes ≡ Ok read → room_taken rules.writes read.history ≤ most_events
+
+-- Texts are read line by line by any rules too, from no event.
+-- Source: profile.
+abbrev pub ReadLineByLineByRules : Type 0
+ReadLineByLineByRules = (rules : TextRules) → ReadsLineByLine takes_value_by (start_by rules)

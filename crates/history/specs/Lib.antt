@@ -1,6 +1,7 @@
 pub mod Text
 pub mod Faults
 pub mod Reading
+pub mod ByRules
 pub mod Written
 pub mod BulkText
 pub mod Laws

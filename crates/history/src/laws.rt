@@ -1,7 +1,7 @@
 //! Laws of the definitions. Each is the contract of a function that does nothing. Those of histories are in
 //! `events`, and exported here too.
 
-ghost use Rattle.history.specs.Laws.{HistoriesLineByLine, TextOfOneHistory, TextsAreRead};
+ghost use Rattle.history.specs.Laws.{HistoriesLineByLine, ReadLineByLineByRules, TextOfOneHistory, TextsAreRead, TextsAreReadByRules};
 
 pub use events::laws::{
     late_calls, leaving_out, legal_in_response_order, precedence, prefixes, split_by_document,
@@ -25,4 +25,16 @@ pub fn texts_are_read()
 /// whatever follows it; and that a line that is too long is refused in the same way however it continues.
 pub fn line_by_line()
     ensures { HistoriesLineByLine }
+{}
+
+/// Shows that a text is read by the strict rules as it is read; and that by any rules it is a history text of
+/// what is read, the calls of which it says that nothing was performed are lost, and its events have room.
+#[tactic(auto, using(crate::proofs::RuledTexts::texts_are_read_by_rules))]
+pub fn texts_are_read_by_rules()
+    ensures { TextsAreReadByRules }
+{}
+
+/// Shows of reading by rules what `line_by_line` shows of reading.
+pub fn line_by_line_by_rules()
+    ensures { ReadLineByLineByRules }
 {}

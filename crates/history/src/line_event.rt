@@ -1,7 +1,8 @@
-ghost use Rattle.std.specs.Prelude.{◌≡◌, IfErr, OnErr, OnOk, Ok, Err};
+ghost use Rattle.std.specs.Prelude.{◌≡◌, IfErr, MatchResult, OnErr, OnOk, Ok, Err};
 ghost use Rattle.api_lines.specs.Faults.{IfReported};
 ghost use Rattle.api_lines.specs.Fields.{body_seen};
-ghost use Rattle.history.specs.Reading.{heard_of_call};
+ghost use Rattle.api_lines.specs.declared.history_line.LineSaid.TheVariants.{Reply as SaysReply};
+ghost use Rattle.history.specs.Reading.{event_said, heard_of_call};
 ghost use Rattle.history.specs.aids.Taking.{HasSaidShard, line_result, takes_reply, takes_said};
 
 use crate::line_fault::line_fault;
@@ -73,5 +74,51 @@ pub fn take_said(
         LineSaid::Call { no, shard, id, op } => of_line(history.push_call(no, shard, &id, op)),
         LineSaid::Reply { no, status } => take_reply(history, no, status, body),
         LineSaid::Lost { no } => of_line(history.push_lost(no)),
+    }
+}
+
+// The event of a reply line. Causes to refuse it: `NoCall`, `Ended`, `Stranger`.
+fn reply_event(
+    history: &History,
+    no: u64,
+    status: u16,
+    body: &BodyFields<'_>,
+) -> Result<Event, LineFault>
+    ensures { MatchResult result
+        (λ event. event_said history.now (body_seen body.now) (SaysReply no status) ≡ Ok event)
+        (λ fault. IfReported fault
+        (λ cause. event_said history.now (body_seen body.now) (SaysReply no status) ≡ Err cause)) }
+{
+    let call = match history.open_call(no) {
+        Ok(call) => call,
+        Err(fault) => return Err(line_fault(fault)),
+    };
+    match heard_of_event(history.event(call), status, body) {
+        Heard::Reply(reply) => Ok(Event::Reply { no, reply }),
+        Heard::Unknown => Ok(Event::Lost { no }),
+        Heard::Stranger => Err(LineFault::Reported(TextCause::Stranger)),
+    }
+}
+
+/// Returns the event of what a line says by itself, with the body of a reply. The history is left as it is.
+///
+/// Causes to refuse a reply: `NoCall`, `Ended`, `Stranger`.
+pub fn said_event(
+    history: &History,
+    said: LineSaid<'_>,
+    body: &BodyFields<'_>,
+) -> Result<Event, LineFault>
+    ensures { MatchResult result
+        (λ event. event_said history.now (body_seen body.now) said.entry ≡ Ok event)
+        (λ fault. IfReported fault
+        (λ cause. event_said history.now (body_seen body.now) said.entry ≡ Err cause)) }
+{
+    match said {
+        LineSaid::Call { no, shard, id, op } => {
+            let id = id.to_id(history.allocator())?;
+            Ok(Event::Call { shard, no, id, op })
+        }
+        LineSaid::Reply { no, status } => reply_event(history, no, status, body),
+        LineSaid::Lost { no } => Ok(Event::Lost { no }),
     }
 }

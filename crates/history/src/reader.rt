@@ -1,81 +1,37 @@
 ghost use Rattle.std.specs.Prelude.{◌≡◌, ◌≤◌, [], IfErr, IfOk, OnErr, OnOk, Ok, Err};
-ghost use Rattle.api_lines.specs.Faults.{IfTextReported, IfReported};
-ghost use Rattle.api_lines.specs.Fields.{line_seen};
+ghost use Rattle.api_lines.specs.Faults.{IfTextReported};
 ghost use Rattle.api_lines.specs.Lines.{HasNoLineFeed, most_lines};
-ghost use Rattle.api_lines.specs.Texts.{next_line, read_line, so_far};
-ghost use Rattle.history.specs.Reading.{history_text, takes_line, takes_value};
+ghost use Rattle.api_lines.specs.Texts.{next_line, so_far};
+ghost use Rattle.history.specs.Reading.{history_text, takes_value};
 ghost use Rattle.history.specs.Text.{IsHistoryText};
 
-use crate::line_event::take_said;
-use api_lines::{
-    LineFault, LineFields, LineReader, LineRoom, ReadFault, given_fields, given_line, line_fields,
-    line_said, take_text,
-};
+use crate::text_reader::TextReader;
+use crate::text_rules::TextRules;
+use api_lines::{LineReader, ReadFault, take_text};
 use events::{HashKeys, History};
 use std::alloc::Global;
 use std::marker::Model;
 
-// Takes the fields of one more line. A line that is refused leaves the history as it was.
-fn take_fields(history: &mut History, line: &LineFields<'_>) -> Result<(), LineFault>
-    ensures ok { OnOk result (takes_line history.old (line_seen line.now) ≡ Ok history.new) }
-    ensures err { IfErr result (λ fault. IfReported fault
-        (λ cause. takes_line history.old (line_seen line.now) ≡ Err cause)) }
-    ensures unchanged { OnErr result (history.new ≡ history.old) }
-{
-    match line_said(line) {
-        Ok(said) => take_said(history, said, &line.body),
-        Err(cause) => Err(LineFault::Reported(cause)),
-    }
-}
-
-// Takes the line with this number, by way of `serde_json` if its fields aren't found without. A line that is
-// refused leaves the history as it was.
-fn take_line(
-    alloc: Global,
-    history: &mut History,
-    room: &mut LineRoom,
-    number: u64,
-    line: &[u8],
-) -> Result<(), LineFault>
-    ensures ok { OnOk result (read_line takes_value number history.old line.now ≡ Ok history.new) }
-    ensures within { OnOk result (number ≤ most_lines) }
-    ensures err { IfErr result (λ fault. IfReported fault
-        (λ cause. read_line takes_value number history.old line.now ≡ Err cause)) }
-    ensures unchanged { OnErr result (history.new ≡ history.old) }
-{
-    let mut fields = LineFields::absent();
-    if given_fields(number, line, room, &mut fields) {
-        return take_fields(history, &fields);
-    }
-    match given_line(alloc, number, line) {
-        Ok(Some(value)) => take_fields(history, &line_fields(&value)),
-        Ok(None) => Ok(()),
-        Err(fault) => Err(fault),
-    }
-}
-
-/// A reader that takes a history line by line.
+/// A reader that takes a history line by line, by the strict rules.
 ///
 /// Contracts see the events so far and the number of lines taken. The law `laws::line_by_line` states for
 /// texts what `line` states for these.
 #[derive(Debug, Drop)]
 pub struct HistoryReader {
-    history: History,
-    lines: u64,
-    room: LineRoom,
+    reader: TextReader,
 }
 
 impl Model for HistoryReader {
-    ghost use Rattle.std.specs.Prelude.{◌≤◌, List};
-    ghost use Rattle.api_lines.specs.Lines.{most_lines};
+    ghost use Rattle.std.specs.Prelude.{List};
     ghost use Rattle.api_lines.specs.Texts.{SoFar, so_far};
     ghost use Rattle.events.specs.declared.event.Event.{Event};
+    ghost use Rattle.history.specs.aids.Rules.{IsStrict};
 
     ghost Value = { SoFar (List Event) };
 
-    ghost view = { λ r. so_far r.history r.lines };
+    ghost view = { λ r. so_far r.reader.state.read.history r.reader.lines };
 
-    ghost invariant = { λ r. r.lines ≤ most_lines };
+    ghost invariant = { λ r. IsStrict r.reader.state };
 }
 
 impl HistoryReader {
@@ -93,9 +49,7 @@ impl HistoryReader {
         ensures { result ≡ so_far [] 0 }
     {
         HistoryReader {
-            history: History::with_keys(alloc, keys),
-            lines: 0,
-            room: LineRoom::new(alloc),
+            reader: TextReader::new(alloc, keys, TextRules::strict()),
         }
     }
 
@@ -116,22 +70,14 @@ impl HistoryReader {
         // An error leaves the reader as it was.
         ensures unchanged { OnErr result (self.new ≡ self.old) }
     {
-        let number = self.lines + 1;
-        let alloc = self.history.allocator();
-        match take_line(alloc, &mut self.history, &mut self.room, number, line) {
-            Ok(()) => {
-                self.lines = number;
-                Ok(())
-            }
-            Err(fault) => Err(fault.at(number)),
-        }
+        self.reader.line(line)
     }
 
     /// Returns the history of the lines that were taken. It allocates nothing.
     pub fn finish(self) -> History
         ensures { result ≡ self.state }
     {
-        self.history
+        self.reader.into_history()
     }
 }
 

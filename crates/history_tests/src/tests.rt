@@ -2,5 +2,6 @@ mod bulk_writer;
 mod front;
 mod pushes;
 mod reader;
+mod rules;
 mod seen;
 mod writer;

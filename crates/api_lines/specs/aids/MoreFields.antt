@@ -26,14 +26,16 @@ body_with name d body =
     else (if bytes_eq name (codes "error") then record body { error_type = field (codes "type") d }
     else body_field_put name (field_value (Some d)) body)
 
--- a line's fields with this one at the key of this name, which is that of a condition, a shard or a status
+-- a line's fields with this one at the key of this name, which is that of a condition, a shard, a status or what
+-- a lost line says of being void
 abbrev pub rare_field_put : List ℕ → FieldValue → LineValues → LineValues
 rare_field_put name f line =
     if bytes_eq name (codes "if_seq_no") then record line { if_seq_no = f }
     else (if bytes_eq name (codes "if_primary_term") then record line { if_primary_term = f }
     else (if bytes_eq name (codes "shard") then record line { shard = f }
     else (if bytes_eq name (codes "status") then record line { status = f }
-    else line)))
+    else (if bytes_eq name (codes "void") then record line { void = f }
+    else line))))
 
 -- a line's fields with this one at the key of this name; those of `body` are not included
 abbrev pub line_field_put : List ℕ → FieldValue → LineValues → LineValues
