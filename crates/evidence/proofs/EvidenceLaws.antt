@@ -26,73 +26,13 @@ use Rattle.evidence.specs.declared.refuted.Refuted.TheVariants as evidence
 use Rattle.evidence.proofs.EarlierSteps.{GivesNumber, IsGivenBefore, StepsAbove, above_taken, steps_from}
 use Rattle.evidence.proofs.CallsByNumber.{same_shard}
 use Rattle.evidence.proofs.HeardLemmas.{heard_is_reply}
+use Rattle.evidence.proofs.MissedWrites.{missed_write}
+use Rattle.evidence.proofs.PlacedCalls.{IsPlaced, IsPlacedWith, in_time, placed, placed_with, replied_so}
 use Rattle.events.proofs.EventLemmas.{same_call}
 use Rattle.ruled_out.proofs.PlacingLaws.{ruled_out_have_no_order}
 use Rattle.ruled_out.proofs.DocumentSteps.{meets}
 use Rattle.ruled_out.proofs.OrderedSteps.{mapped_at}
 use Rattle.ruled_out.proofs.ReportedStates.{found_has, shown_taken}
-
--- ---- answered calls in an order
-
--- where an answered call stands in an order
-record IsPlaced (order : List Placed) (n h : ℕ) (d : List ℕ) (op : Op) (r : Answer) : Type 0 where
-  pub place : ℕ
-  pub placed : Placed
-  pub at : slice_get order place ≡ Some placed
-  pub number : placed.no ≡ n
-  pub shard : placed.entry.shard ≡ h
-  pub doc : placed.entry.doc ≡ d
-  pub operation : placed.entry.op ≡ op
-  pub reply : placed.entry.reply ≡ r
-  pub entry : slice_get (run_of order) place ≡ Some placed.entry
-
--- an answered call stands in each order that explains the history
-placed : (conflicts : Conflicts) (events : List Event) (order : List Placed) → IsHistory events → Explains conflicts events order
-    → (i n h y : ℕ) (d : List ℕ) (op : Op) (r : Answer) → IsCallAt events i n h d op → heard_of events n ≡ Some (y, r) → IsPlaced order n h d op r
-placed conflicts events order history explains i n h y d op r call heard =
-    let x = explains.is_order.answered y n r (heard_is_reply events history i n h d op call y r heard) in
-    let of : IsOfCall events x.1 = explains.is_order.calls x.0 x.1 x.2 in
-    let place : of.0 ≡ i = history.called_once n of.0 i
-    (subst (λ m. PassesAt (is_call m) events of.0) x.3 (call_passes events of.0 x.1.no x.1.entry.shard x.1.entry.doc x.1.entry.op of.1))
-    (call_passes events i n h d op call) in
-    let moved : IsCallAt events i x.1.no x.1.entry.shard x.1.entry.doc x.1.entry.op = subst (λ c. IsCallAt events c x.1.no x.1.entry.shard x.1.entry.doc x.1.entry.op) place of.1 in
-    let same = same_call events i x.1.no n x.1.entry.shard h x.1.entry.doc d x.1.entry.op op moved call in
-    record {
-      place = x.0;
-      placed = x.1;
-      at = x.2;
-      number = x.3;
-      shard = same_shard events i x.1.no n x.1.entry.shard h x.1.entry.doc d x.1.entry.op op moved call;
-      doc = same.1;
-      operation = same.2;
-      reply = x.4;
-      entry = mapped_at (λ (p : Placed). p.entry) order x.0 x.1 x.2;
-    }
-
--- ---- performed calls in an order
-
-shown_heard : (heard : Option (ℕ × Answer)) (q : Pair) → taken_by heard None ≡ Some q → (y : ℕ) × (r : Answer) × (heard ≡ Some (y, r)) × (pair_taken r None ≡ Some q)
-shown_heard None q is = absurd (none_is_not_some q is)
-shown_heard (Some (y, r)) q is = (y, r, refl, is)
-
--- where a performed call stands in an order
-record IsPlacedWith (order : List Placed) (n h : ℕ) (d : List ℕ) (op : Op) (q : Pair) : Type 0 where
-  pub reply : Answer
-  pub own : IsPlaced order n h d op reply
-  pub takes : pair_taken own.placed.entry.reply own.placed.entry.hidden ≡ Some q
-  pub shows : pair_taken reply None ≡ Some q
-
-placed_with : (conflicts : Conflicts) (events : List Event) (order : List Placed) → IsHistory events → Explains conflicts events order
-    → (n : ℕ) (d : List ℕ) (q : Pair) (w : IsPerformed events n d q) → IsPlacedWith order n w.shard d w.op q
-placed_with conflicts events order history explains n d q w =
-    let heard = shown_heard (heard_of events n) q w.shows in
-    let own = placed conflicts events order history explains w.called n w.shard heard.0 d w.op heard.1 w.call heard.2 in
-    record {
-      reply = heard.1;
-      own = own;
-      takes = ap (λ r. pair_taken r own.placed.entry.hidden) own.reply ∙ shown_taken heard.1 own.placed.entry.hidden q heard.3;
-      shows = heard.3;
-    }
 
 -- ---- a pair twice
 
@@ -197,41 +137,6 @@ no_writer conflicts events g history evidence (order, explains) =
     let here = found_has step.before get.placed.entry.op get.placed.entry.hidden step.after evidence.pair evidence.number
     (subst (λ r. DocStep step.before get.placed.entry.op r get.placed.entry.hidden step.after) get.reply step.step) in
     by_source get (step.came evidence.pair evidence.number here) where
-      -- the writer was called before the get was answered
-      in_time : (get : IsPlaced order g evidence.get.shard evidence.doc evidence.get.op (Found evidence.pair evidence.number))
-          → (given : IsGivenBefore (run_of order) get.place get.placed.entry.doc evidence.pair evidence.number) (p : Placed) → slice_get order given.place ≡ Some p → (of : IsOfCall events p)
-          → of.0 < evidence.replied
-      in_time get given p at of =
-          let reply = heard_is_reply events history evidence.get.called g evidence.get.shard evidence.doc evidence.get.op evidence.get.call evidence.replied (Found evidence.pair evidence.number)
-          evidence.get.heard in
-          let less : given.place < get.place = given.before in
-          elim (cases_lt of.0 evidence.replied) as (λ _. of.0 < evidence.replied) [
-            | inl before ↦ before
-            | inr other ↦ elim (cases_lt evidence.replied of.0) as (λ _. of.0 < evidence.replied) [
-              | inl after ↦ (let more : get.place < given.place = explains.respects get.place given.place get.placed p get.at at
-                  (subst (λ n. Precedes events n p.no) (sym get.number) (record {
-                    answered = evidence.replied;
-                    called = of.0;
-                    before = after;
-                    reply = (Found evidence.pair evidence.number, reply);
-                    call = call_passes events of.0 p.no p.entry.shard p.entry.doc p.entry.op of.1;
-                  })) in
-                  omega arith)
-              | inr under ↦ (let same : of.0 ≡ evidence.replied = omega arith in
-                  let impossible : Call p.entry.shard p.no p.entry.doc p.entry.op ≡ Reply g (Found evidence.pair evidence.number) =
-                  same_some (Call p.entry.shard p.no p.entry.doc p.entry.op) (Reply g (Found evidence.pair evidence.number)) (sym of.1 ∙ (ap (slice_get events) same ∙ reply)) in
-                  absurd (cc))
-            ]
-          ]
-
-      -- what was heard of a call of the order is its reply there
-      reported : (i : ℕ) (p : Placed) → slice_get order i ≡ Some p → IsOfCall events p → (y : ℕ) (r : Answer) → heard_of events p.no ≡ Some (y, r) → p.entry.reply ≡ r
-      reported i p at of y r heard =
-          let own = placed conflicts events order history explains of.0 p.no p.entry.shard y p.entry.doc p.entry.op r of.1 heard in
-          let same : own.place ≡ i = explains.is_order.once own.place i own.placed p own.at at own.number in
-          let call : own.placed ≡ p = same_some own.placed p (sym own.at ∙ (ap (slice_get order) same ∙ at)) in
-          ap (λ (q : Placed). q.entry.reply) (sym call) ∙ own.reply
-
       gives : (get : IsPlaced order g evidence.get.shard evidence.doc evidence.get.op (Found evidence.pair evidence.number))
           → IsGivenBefore (run_of order) get.place get.placed.entry.doc evidence.pair evidence.number → ⊥
       gives get given =
@@ -239,7 +144,9 @@ no_writer conflicts events g history evidence (order, explains) =
           let of : IsOfCall events x.0 = explains.is_order.calls given.place x.0 x.1 in
           let doc : x.0.entry.doc ≡ evidence.doc = ap (λ (e : Entry). e.doc) x.2 ∙ (given.doc ∙ get.doc) in
           evidence.none of.0 (record {
-            before = in_time get given x.0 x.1 of;
+            before = in_time conflicts events order explains evidence.replied g (Found evidence.pair evidence.number)
+                (heard_is_reply events history evidence.get.called g evidence.get.shard evidence.doc evidence.get.op evidence.get.call evidence.replied (Found evidence.pair evidence.number) evidence.get.heard)
+                given.place get.place x.0 get.placed x.1 get.at get.number given.before of;
             number = x.0.no;
             shard = x.0.entry.shard;
             op = x.0.entry.op;
@@ -247,7 +154,7 @@ no_writer conflicts events g history evidence (order, explains) =
             gives = ap (λ (e : Entry). value_of e.op) x.2 ∙ given.gives.number;
             takes = may_take conflicts (heard_of events x.0.no) given.entry evidence.pair evidence.number given.gives
                 (λ is. ap (λ (e : Entry). e.hidden) (sym x.2) ∙ explains.is_order.plain is given.place x.0 x.1)
-                (λ y r heard. ap (λ (e : Entry). e.reply) (sym x.2) ∙ reported given.place x.0 x.1 of y r heard);
+                (λ y r heard. ap (λ (e : Entry). e.reply) (sym x.2) ∙ replied_so conflicts events order history explains given.place x.0 x.1 of y r heard);
           })
 
       by_source : (get : IsPlaced order g evidence.get.shard evidence.doc evidence.get.op (Found evidence.pair evidence.number))
@@ -261,6 +168,7 @@ pub evidence_refutes : EvidenceRefutes
 evidence_refutes conflicts events (evidence.PairTwice a b) history holds explained = pair_twice conflicts events a b history holds explained
 evidence_refutes conflicts events (evidence.NoWriter g) history holds explained = no_writer conflicts events g history holds explained
 evidence_refutes conflicts events (evidence.StaleGet g w) history holds explained = stale_get conflicts events g w history holds explained
+evidence_refutes conflicts events (evidence.MissedWrite g w) history holds explained = missed_write conflicts events g w history holds explained
 evidence_refutes conflicts events (evidence.StaleSwap a b) history holds explained = stale_swap conflicts events a b history holds explained
 evidence_refutes conflicts events (evidence.RuledOut n) history holds explained =
     ruled_out_have_no_order conflicts events holds.document.0 n history holds.ruled_out explained

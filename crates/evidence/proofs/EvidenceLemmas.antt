@@ -1,24 +1,26 @@
 -- What a history says of the calls that evidence names, and where that is evidence.
-use Rattle.std.proofs.Common.{ℕ, ◌≡◌, ◌≢◌, ◌<◌, ◌⊎◌, inl, inr, List, refl, sym, ap, subst, ◌∙◌, true, Option, Some, None, length, option_map}
-use Rattle.std.specs.Prelude.{◌↔◌}
+use Rattle.std.proofs.Common.{ℕ, ◌≡◌, ◌≢◌, ◌<◌, ◌≤◌, ◌⊎◌, arith, inl, inr, List, refl, sym, ap, subst, ◌∙◌, false, true, Option, Some, None, length, option_map, slice_get}
+use Rattle.std.specs.Prelude.{◌↔◌, IsSome}
 use Rattle.std.specs.Cmp.Lexicographic.{bytes_decides}
 use Rattle.std.proofs.lemmas.Option.{slice_get_within}
 use Rattle.version_pair.specs.declared.pair.Pair.{Pair}
 use Rattle.version_pair.specs.PairOrder.{IsBelow}
 use Rattle.doc_register.specs.declared.op.Op.{Op}
+use Rattle.doc_register.specs.declared.op.Op.TheVariants.{Delete}
 use Rattle.doc_register.specs.declared.reply.Reply.{Reply as Answer}
-use Rattle.doc_register.specs.declared.reply.Reply.TheVariants.{Found}
+use Rattle.doc_register.specs.declared.reply.Reply.TheVariants.{Found, Missing}
 use Rattle.doc_register.specs.declared.state.Conflicts.{Conflicts}
 use Rattle.events.specs.declared.event.Event.{Event}
-use Rattle.events.specs.declared.event.Event.TheVariants.{Call}
+use Rattle.events.specs.declared.event.Event.TheVariants.{Call, Reply}
 use Rattle.events.specs.Events.{IsCallAt, IsHistory, PassesAt, Precedes, heard_of, is_call_of}
 use Rattle.events.proofs.HistoryLemmas.{call_passes, reply_passes}
-use Rattle.version_pair.proofs.ListLemmas.{same_some}
+use Rattle.version_pair.proofs.ListLemmas.{none_is_not_some, same_some}
 use Rattle.events.specs.Heard.{taken_by}
 use Rattle.doc_register.specs.Register.{condition_of, value_of}
-use Rattle.evidence.specs.Evidence.{HasNoWriter, IsFound, IsPairTwice, IsPerformed, IsStaleGet, IsStaleSwap, IsWriter, MayTake}
-use Rattle.evidence.specs.aids.CallsWithPairs.{AsksTooLittle, IsFoundGet, IsPerformedWrite}
+use Rattle.evidence.specs.Evidence.{HasNoWriter, IsFound, IsMissedWrite, IsMissing, IsPairTwice, IsPerformed, IsRemover, IsStaleGet, IsStaleSwap, IsWriter, MayTake, MayTakeAbove}
+use Rattle.evidence.specs.aids.CallsWithPairs.{AsksTooLittle, IsFoundGet, IsMissingGet, IsPerformedWrite}
 use Rattle.evidence.specs.declared.answered_call.FoundGet.{FoundGet}
+use Rattle.evidence.specs.declared.answered_call.MissingGet.{MissingGet}
 use Rattle.evidence.specs.declared.answered_call.PerformedWrite.{PerformedWrite}
 use Rattle.evidence.proofs.CallsByNumber.{same_shard}
 use Rattle.evidence.proofs.HeardLemmas.{heard_is_reply}
@@ -240,3 +242,92 @@ writer_reported conflicts events d e get j n h op before call = (
         of_document events j n h d op (subst (λ f. IsCallAt events j n h f op) (sym same.1) call),
       ),
 )
+
+-- ---- missed writes
+
+-- a get that found nothing as the history describes it
+pub missing_as : (events : List Event) (n : ℕ) (get : MissingGet) (look : IsMissingGet events n get) → IsMissing events n look.doc get.replied
+missing_as events n get look = record { called = get.called; shard = look.shard; op = look.op; call = look.call; heard = look.heard }
+
+-- what it says is the only one
+pub record IsThatMissing (get : MissingGet) (d e : List ℕ) (i : ℕ) : Type 0 where
+  pub doc : e ≡ d
+  pub replied : get.replied ≡ i
+
+that_missing : (events : List Event) (n : ℕ) (get : MissingGet) (d : List ℕ) (i : ℕ) → IsHistory events → (look : IsMissingGet events n get) → IsMissing events n d i
+    → IsThatMissing get d look.doc i
+that_missing events n get d i history look missing =
+    let call = one_call events get.called missing.called n look.shard missing.shard look.doc d look.op missing.op history look.call missing.call in
+    let here : ℕ × Answer = (get.replied, Missing) in
+    let there : ℕ × Answer = (i, Missing) in
+    let one : here ≡ there = same_some here there (sym look.heard ∙ missing.heard) in
+    record { doc = call.doc; replied = ap (λ (z : ℕ × Answer). z.0) one }
+
+pub missing_within : (events : List Event) (n : ℕ) (get : MissingGet) → IsMissingGet events n get → get.called < length events
+missing_within events n get look = slice_get_within events get.called (Call look.shard n look.doc look.op) look.call
+
+pub missing_replied : (events : List Event) (n : ℕ) (get : MissingGet) → IsHistory events → (look : IsMissingGet events n get) → get.replied ≤ length events
+missing_replied events n get history look =
+    let within = slice_get_within events get.replied (Reply n Missing) (heard_is_reply events history get.called n look.shard look.doc look.op look.call get.replied Missing look.heard) in
+    omega arith
+
+pub missed_write_reported : (conflicts : Conflicts) (events : List Event) (g w : ℕ) (get : MissingGet) (write : PerformedWrite) → IsHistory events → (x : IsMissingGet events g get) → (y : IsPerformedWrite events w write)
+    → ((write.replied < get.called) × IsSome (value_of write.op) × PassesAt (is_call_of x.doc) events write.called × ((j : ℕ) → ¬ IsRemover conflicts events x.doc get.replied write.pair j))
+    ↔ IsMissedWrite conflicts events g w
+missed_write_reported conflicts events g w get write history x y = (
+  λ (before, gives, own, none).
+      let number = IsSome-value (value_of write.op) gives in
+      record {
+        doc = x.doc;
+        replied = get.replied;
+        pair = write.pair;
+        number = number.0;
+        get = missing_as events g get x;
+        write = performed_as events w write y x.doc write.pair (of_no_other events write.called w write.shard x.doc y.doc write.op y.call own) refl;
+        gives = number.1;
+        first = (precedes events w g write get.called x.shard x.doc x.op history y x.call).0 before;
+        none = none;
+      },
+  λ missed.
+      let first = that_missing events g get missed.doc missed.replied history x missed.get in
+      let second = that_write events w write missed.doc missed.pair history y missed.write in (
+        (precedes events w g write get.called x.shard x.doc x.op history y x.call).1 missed.first,
+        some-IsSome (value_of write.op) missed.number (ap value_of second.call.operation ∙ missed.gives),
+        of_document events write.called w write.shard x.doc write.op (subst (λ d. IsCallAt events write.called w write.shard d write.op) (second.call.doc ∙ sym first.doc) y.call),
+        (λ j remover. missed.none j (subst (λ d. IsRemover conflicts events d missed.replied missed.pair j) first.doc
+            (subst (λ i. IsRemover conflicts events x.doc i missed.pair j) first.replied
+            (subst (λ q. IsRemover conflicts events x.doc get.replied q j) second.pair remover)))),
+      ),
+) where
+  IsSome-value : (o : Option ℕ) → IsSome o → (k : ℕ) × (o ≡ Some k)
+  IsSome-value None is = let impossible : false ≡ true = is in absurd (cc)
+  IsSome-value (Some k) is = (k, refl)
+
+  some-IsSome : (o : Option ℕ) (k : ℕ) → o ≡ Some k → IsSome o
+  some-IsSome None k is = absurd (none_is_not_some k is)
+  some-IsSome (Some j) k is = refl
+
+-- the call at the place is a remover, if it may have taken a pair above and is of the document
+pub remover_reported : (conflicts : Conflicts) (events : List Event) (d e : List ℕ) (get : MissingGet) (q : Pair) (j n h : ℕ) (c : Option Pair) → j < get.replied → IsCallAt events j n h e (Delete c)
+    → (MayTakeAbove conflicts (heard_of events n) q × PassesAt (is_call_of d) events j) ↔ IsRemover conflicts events d get.replied q j
+remover_reported conflicts events d e get q j n h c before call = (
+  λ (takes, own). record {
+    before = before;
+    number = n;
+    shard = h;
+    condition = c;
+    call = subst (λ f. IsCallAt events j n h f (Delete c)) (of_no_other events j n h d e (Delete c) call own) call;
+    takes = takes;
+  },
+  λ remover.
+      let same = same_call events j remover.number n remover.shard h d e (Delete remover.condition) (Delete c) remover.call call in (
+        subst (λ m. MayTakeAbove conflicts (heard_of events m) q) same.0 remover.takes,
+        of_document events j n h d (Delete c) (subst (λ f. IsCallAt events j n h f (Delete c)) (sym same.1) call),
+      ),
+)
+
+-- no other call is one
+pub no_other_removes : (conflicts : Conflicts) (events : List Event) (d : List ℕ) (i : ℕ) (q : Pair) (j : ℕ) (e : Event) → slice_get events j ≡ Some e
+    → ((h n : ℕ) (f : List ℕ) (c : Option Pair) → e ≡ Call h n f (Delete c) → ⊥) → ¬ IsRemover conflicts events d i q j
+no_other_removes conflicts events d i q j e at other remover =
+    other remover.shard remover.number d remover.condition (same_some e (Call remover.shard remover.number d (Delete remover.condition)) (sym at ∙ remover.call))

@@ -2,6 +2,8 @@ pub mod FilterLemmas
 pub mod HeardLemmas
 pub mod CallsByNumber
 mod EarlierSteps
-mod EvidenceLaws
+mod PlacedCalls
+mod MissedWrites
+pub mod EvidenceLaws
 mod EvidenceLemmas
 pub mod RuledOutLemmas

@@ -4,6 +4,7 @@ use Rattle.std.specs.Prelude.{◌≡◌, ◌≢◌, ◌<◌, ◌≤◌, ◌⊎�
 use Rattle.version_pair.specs.declared.pair.Pair.{Pair}
 use Rattle.version_pair.specs.PairOrder.{IsBelow}
 use Rattle.doc_register.specs.declared.op.Op.{Op}
+use Rattle.doc_register.specs.declared.op.Op.TheVariants.{Delete}
 use Rattle.doc_register.specs.Register.{condition_of, value_of}
 use Rattle.doc_register.specs.declared.reply.Reply.{Reply as Answer}
 use Rattle.doc_register.specs.declared.reply.Reply.TheVariants.{Indexed, Deleted, Found, Missing, Conflict}
@@ -50,6 +51,16 @@ pub record IsFound (events : List Event) (n : ℕ) (d : List ℕ) (i : ℕ) (p :
   -- answered so
   pub heard : heard_of events n ≡ Some (i, Found p k)
 
+-- The call numbered n is a get of the document d, and the reply at the position i shows that it found nothing.
+pub record IsMissing (events : List Event) (n : ℕ) (d : List ℕ) (i : ℕ) : Type 0 where
+  pub called : ℕ
+  pub shard : ℕ
+  pub op : Op
+  -- the call numbered n is on the document d
+  pub call : IsCallAt events called n shard d op
+  -- its reply, at the position i, is Missing: in a history only a get is answered so
+  pub heard : heard_of events n ≡ Some (i, Missing)
+
 -- ---- writers
 
 -- What was heard of an index or a create allows that it took the pair p: it was answered with this pair, it
@@ -77,6 +88,32 @@ pub record IsWriter (conflicts : Conflicts) (events : List Event) (d : List ℕ)
   pub gives : value_of op ≡ Some k
   -- it may have taken the pair p
   pub takes : MayTake conflicts (heard_of events number) p
+
+-- ---- removers
+
+-- What was heard of a delete allows that it took a pair above q: it was answered with such a pair, it is
+-- pending, or, under Maybe, it was answered with a conflict.
+-- Source: profile.
+abbrev pub MayTakeAbove : Conflicts → Option (ℕ × Answer) → Pair → Type 0
+MayTakeAbove conflicts None q = Unit {0}
+MayTakeAbove conflicts (Some (at, Indexed p created)) q = ⊥
+MayTakeAbove conflicts (Some (at, Deleted p found)) q = IsBelow q p
+MayTakeAbove conflicts (Some (at, Found p k)) q = ⊥
+MayTakeAbove conflicts (Some (at, Missing)) q = ⊥
+MayTakeAbove conflicts (Some (at, Conflict)) q = conflicts ≡ Maybe
+
+-- The call at the position j, before i, is a delete that may have removed the document d after its change with
+-- the pair q.
+pub record IsRemover (conflicts : Conflicts) (events : List Event) (d : List ℕ) (i : ℕ) (q : Pair) (j : ℕ) : Type 0 where
+  -- the call is before the position i
+  pub before : j < i
+  pub number : ℕ
+  pub shard : ℕ
+  pub condition : Option Pair
+  -- it is a delete of the document d
+  pub call : IsCallAt events j number shard d (Delete condition)
+  -- it may have taken a pair above q
+  pub takes : MayTakeAbove conflicts (heard_of events number) q
 
 -- ---- the kinds of evidence
 
@@ -123,6 +160,25 @@ pub record IsStaleGet (events : List Event) (g w : ℕ) : Type 0 where
   pub first : Precedes events w g
   -- the pair found is below that of the write
   pub below : IsBelow found pair
+
+-- The get found nothing, an index or a create of its document precedes it, and no delete called before its
+-- reply may have removed the document after that.
+-- Source: Herlihy and Wing, section 2, the order of operations; profile (the rest).
+pub record IsMissedWrite (conflicts : Conflicts) (events : List Event) (g w : ℕ) : Type 0 where
+  pub doc : List ℕ
+  pub replied : ℕ
+  pub pair : Pair
+  pub number : ℕ
+  -- the get found nothing
+  pub get : IsMissing events g doc replied
+  -- a write of its document was performed
+  pub write : IsPerformed events w doc pair
+  -- the write is an index or a create
+  pub gives : value_of write.op ≡ Some number
+  -- the write precedes the get
+  pub first : Precedes events w g
+  -- no call before the reply of the get may have removed the document after the write
+  pub none : (j : ℕ) → ¬ IsRemover conflicts events doc replied pair j
 
 -- Different writes of one document were performed. The second has a condition below the first one's pair, and
 -- the first comes before it: it precedes it, or its pair is below the second one's.
@@ -177,6 +233,7 @@ abbrev pub Holds : Conflicts → List Event → Refuted → Type 0
 Holds conflicts events (evidence.PairTwice a b) = IsPairTwice events a b
 Holds conflicts events (evidence.NoWriter g) = HasNoWriter conflicts events g
 Holds conflicts events (evidence.StaleGet g w) = IsStaleGet events g w
+Holds conflicts events (evidence.MissedWrite g w) = IsMissedWrite conflicts events g w
 Holds conflicts events (evidence.StaleSwap a b) = IsStaleSwap events a b
 Holds conflicts events (evidence.RuledOut n) = IsRuledOutIn conflicts events n
 
@@ -187,6 +244,7 @@ abbrev pub IsOfCalls : Refuted → Type 0
 IsOfCalls (evidence.PairTwice a b) = Unit {0}
 IsOfCalls (evidence.NoWriter g) = Unit {0}
 IsOfCalls (evidence.StaleGet g w) = Unit {0}
+IsOfCalls (evidence.MissedWrite g w) = Unit {0}
 IsOfCalls (evidence.StaleSwap a b) = Unit {0}
 IsOfCalls (evidence.RuledOut n) = ⊥
 
@@ -201,6 +259,7 @@ abbrev pub IsReported : RulingOut → Conflicts → List Event → Refuted → T
 IsReported ruling conflicts events (evidence.PairTwice a b) = Unit {0}
 IsReported ruling conflicts events (evidence.NoWriter g) = Unit {0}
 IsReported ruling conflicts events (evidence.StaleGet g w) = Unit {0}
+IsReported ruling conflicts events (evidence.MissedWrite g w) = Unit {0}
 IsReported ruling conflicts events (evidence.StaleSwap a b) = Unit {0}
 IsReported ruling conflicts events (evidence.RuledOut n) = (ruling ≡ On) × IsLeastRuledOut conflicts events n
 

@@ -1,7 +1,7 @@
 ghost use Rattle.std.specs.Prelude.{◌<◌, ◌↔◌, IsTrue, List, None, ℕ, length};
 ghost use Rattle.doc_register.specs.Run.{pair_taken};
 ghost use Rattle.events.specs.Events.{IsHistory, PassesAt, is_call_of};
-ghost use Rattle.evidence.specs.aids.CallsWithPairs.{IsFoundAs, IsPerformedAs};
+ghost use Rattle.evidence.specs.aids.CallsWithPairs.{IsFoundAs, IsMissingAs, IsPerformedAs};
 
 use doc_register::{Op, Reply};
 use events::{Event, History};
@@ -16,6 +16,15 @@ pub struct FoundGet {
     pub replied: usize,
     pub pair: Pair,
     pub k: u64,
+}
+
+/// A get that found nothing. Positions are indices of events, from 0.
+#[derive(Clone, Copy, PartialEq, Eq)]
+pub struct MissingGet {
+    /// The position of the call.
+    pub called: usize,
+    /// The position of the reply.
+    pub replied: usize,
 }
 
 /// A write whose reply shows the pair with which it was performed. Positions are indices of events, from 0.
@@ -45,6 +54,20 @@ pub fn found_get(history: &History, no: u64) -> Option<FoundGet>
             pair,
             k,
         }),
+        _ => None,
+    }
+}
+
+/// Returns the get with this number, if it found nothing.
+pub fn missing_get(history: &History, no: u64) -> Option<MissingGet>
+    requires { IsHistory history.now }
+    ensures { IsMissingAs history.now no result }
+{
+    let Some(called) = history.call(no) else {
+        return None;
+    };
+    match history.heard(no) {
+        Some((replied, Reply::Missing)) => Some(MissingGet { called, replied }),
         _ => None,
     }
 }

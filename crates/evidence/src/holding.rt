@@ -1,12 +1,13 @@
-ghost use Rattle.std.specs.Prelude.{◌≡◌, ◌<◌, ◌≤◌, ◌↔◌, ◌⊎◌, IfOk, IsOk, IsTrue, List, Some, ℕ, length};
+ghost use Rattle.std.specs.Prelude.{◌≡◌, ◌<◌, ◌≤◌, ◌↔◌, ◌⊎◌, IfOk, IsOk, IsSome, IsTrue, List, Some, ℕ, length};
 ghost use Rattle.version_pair.specs.PairOrder.{IsBelow};
 ghost use Rattle.events.specs.Events.{IsHistory, PassesAt, is_call_of};
 ghost use Rattle.doc_register.specs.Register.{value_of};
-ghost use Rattle.evidence.specs.Evidence.{HasNoWriter, Holds, IsOfCalls, IsPairTwice, IsStaleGet, IsStaleSwap, IsWriter, MayTake};
+ghost use Rattle.evidence.specs.Evidence.{HasNoWriter, Holds, IsMissedWrite, IsOfCalls, IsPairTwice, IsRemover, IsStaleGet, IsStaleSwap, IsWriter, MayTake, MayTakeAbove};
 ghost use Rattle.evidence.specs.aids.CallsWithPairs.{AsksTooLittle};
 
 use crate::answered_call::{
-    FoundGet, PerformedWrite, are_of_one_document, found_get, performed_write,
+    FoundGet, MissingGet, PerformedWrite, are_of_one_document, found_get, missing_get,
+    performed_write,
 };
 use crate::refuted::Refuted;
 use crate::ruled_out_calls::is_ruled_out;
@@ -124,6 +125,86 @@ fn is_stale_get(history: &History, get: u64, write: u64) -> bool
     is_overtaken(found, newer) && are_of_one_document(history, found.called, newer.called)
 }
 
+// Whether what was heard of a delete allows that it took a pair above this one.
+fn may_take_above(conflicts: Conflicts, heard: Option<(usize, Reply)>, pair: Pair) -> bool
+    ensures { IsTrue result ↔ MayTakeAbove conflicts heard pair }
+{
+    match heard {
+        None => true,
+        Some((_, Reply::Deleted { pair: taken, .. })) => pair.is_below(taken),
+        Some((_, Reply::Conflict)) => conflicts == Conflicts::Maybe,
+        Some((_, Reply::Indexed { .. } | Reply::Found { .. } | Reply::Missing)) => false,
+    }
+}
+
+// Whether the call at the position is a delete of the get's document that may have removed it after its change
+// with the pair.
+fn is_remover(
+    history: &History,
+    get: MissingGet,
+    pair: Pair,
+    place: usize,
+    conflicts: Conflicts,
+) -> bool
+    requires get { get.called < length history.now }
+    requires place { place < length history.now }
+    requires before { place < get.replied }
+    ensures { (d : List ℕ) → PassesAt (is_call_of d) history.now get.called
+        → (IsTrue result ↔ IsRemover conflicts history.now d get.replied pair place) }
+{
+    match history.event(place) {
+        Event::Call { no, op, .. } => match op {
+            Op::Delete { .. } => {
+                may_take_above(conflicts, history.heard(*no), pair)
+                    && are_of_one_document(history, get.called, place)
+            }
+            Op::Get | Op::Index { .. } | Op::Create { .. } => false,
+        },
+        Event::Reply { .. } | Event::Lost { .. } => false,
+    }
+}
+
+// Whether no call before the get's reply may have removed the document after its change with the pair.
+fn is_without_remover(history: &History, get: MissingGet, pair: Pair, conflicts: Conflicts) -> bool
+    requires get { get.called < length history.now }
+    requires replied { get.replied ≤ length history.now }
+    ensures { (d : List ℕ) → PassesAt (is_call_of d) history.now get.called
+        → (IsTrue result ↔ ((j : ℕ) → ¬ IsRemover conflicts history.now d get.replied pair j)) }
+{
+    for place in 0..get.replied {
+        if is_remover(history, get, pair, place, conflicts) {
+            return false;
+        }
+    }
+    true
+}
+
+// Whether the write is an index or a create that was answered before the get was called.
+fn is_passed_over(get: MissingGet, write: PerformedWrite) -> bool
+    ensures { IsTrue result ↔ ((write.replied < get.called) × IsSome (value_of write.op)) }
+{
+    write.replied < get.called && write.op.value().is_some()
+}
+
+// Whether an index or a create precedes a get of its document that found nothing, and no delete may have
+// removed the document after that.
+fn is_missed_write(history: &History, get: u64, write: u64, conflicts: Conflicts) -> bool
+    requires { IsHistory history.now }
+    ensures { IsTrue result ↔ IsMissedWrite conflicts history.now get write }
+{
+    let Some(missing) = missing_get(history, get) else {
+        return false;
+    };
+    let Some(passed) = performed_write(history, write) else {
+        return false;
+    };
+    if !is_passed_over(missing, passed) {
+        return false;
+    }
+    are_of_one_document(history, missing.called, passed.called)
+        && is_without_remover(history, missing, passed.pair, conflicts)
+}
+
 // Whether the first write comes before the second: it precedes it, or has the lesser pair.
 fn stands_first(first: PerformedWrite, second: PerformedWrite) -> bool
     ensures { IsTrue result ↔ ((first.replied < second.called) ⊎ IsBelow first.pair second.pair) }
@@ -183,6 +264,7 @@ pub fn refutes(
         Refuted::PairTwice(one, two) => Ok(is_pair_twice(history, one, two)),
         Refuted::NoWriter(get) => Ok(has_no_writer(history, get, conflicts)),
         Refuted::StaleGet(get, write) => Ok(is_stale_get(history, get, write)),
+        Refuted::MissedWrite(get, write) => Ok(is_missed_write(history, get, write, conflicts)),
         Refuted::StaleSwap(one, two) => Ok(is_stale_swap(history, one, two)),
         Refuted::RuledOut(call) => is_ruled_out(alloc, history, call, conflicts),
     }

@@ -8,6 +8,9 @@ pub enum Refuted {
     /// A get, and a write of its document that was answered before the get was called: the get found a pair
     /// below the write's.
     StaleGet(u64, u64),
+    /// A get that found nothing, and an index or a create of its document that was answered before the get
+    /// was called: no delete called before the get's reply may have removed the document after that.
+    MissedWrite(u64, u64),
     /// Two writes of one document. The second was performed although its condition asks for a pair below the
     /// first one's, and the first comes before it: it was answered before the second was called, or has the
     /// lesser pair.

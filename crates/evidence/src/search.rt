@@ -48,8 +48,9 @@ fn confirm(
 }
 
 /// Returns evidence that holds in the history, in this reading of conflicts. It is of the first kind that
-/// holds, in the order of `Refuted`, and of that kind it has the least call numbers, compared by the first
-/// number first. Documents that are provably not linearizable are not searched for.
+/// holds of those searched for, in the order of `Refuted`, and of that kind it has the least call numbers,
+/// compared by the first number first. Neither gets that missed a write nor documents that are provably not
+/// linearizable are searched for.
 ///
 /// Which evidence is found, and that some is found if a kind holds, is tested, not proved: `None` says
 /// nothing.

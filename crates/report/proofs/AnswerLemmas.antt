@@ -117,6 +117,7 @@ calls_reported ruling conflicts H None calls = tt
 calls_reported ruling conflicts H (Some (evidence.PairTwice a b)) calls = tt
 calls_reported ruling conflicts H (Some (evidence.NoWriter g)) calls = tt
 calls_reported ruling conflicts H (Some (evidence.StaleGet g w)) calls = tt
+calls_reported ruling conflicts H (Some (evidence.MissedWrite g w)) calls = tt
 calls_reported ruling conflicts H (Some (evidence.StaleSwap a b)) calls = tt
 calls_reported ruling conflicts H (Some (evidence.RuledOut n)) calls = absurd calls
 

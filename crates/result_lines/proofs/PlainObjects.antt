@@ -66,6 +66,7 @@ calls_plain : (e : Refuted) → has_float (calls_of e) ≡ false
 calls_plain (evidence.PairTwice a b) = refl
 calls_plain (evidence.NoWriter g) = refl
 calls_plain (evidence.StaleGet g w) = refl
+calls_plain (evidence.MissedWrite g w) = refl
 calls_plain (evidence.StaleSwap a b) = refl
 calls_plain (evidence.RuledOut n) = refl
 

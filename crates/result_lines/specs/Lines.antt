@@ -49,12 +49,14 @@ abbrev pub no_line : Offence → List ℕ
 no_line o =
     codes "no event=" ++ (decimal o.event ++ (codes " call=" ++ (decimal o.call ++ (codes " before=" ++ (before_name o.before_shown ++ codes "\n")))))
 
--- the printed name of a kind of evidence: `pair-twice`, `no-writer`, `stale-get`, `stale-swap` or `ruled-out`
+-- the printed name of a kind of evidence: `pair-twice`, `no-writer`, `stale-get`,
+-- `missed-write`, `stale-swap` or `ruled-out`
 -- Source: profile.
 abbrev pub kind_name : Refuted → List ℕ
 kind_name (evidence.PairTwice a b) = codes "pair-twice"
 kind_name (evidence.NoWriter g) = codes "no-writer"
 kind_name (evidence.StaleGet g w) = codes "stale-get"
+kind_name (evidence.MissedWrite g w) = codes "missed-write"
 kind_name (evidence.StaleSwap a b) = codes "stale-swap"
 kind_name (evidence.RuledOut n) = codes "ruled-out"
 
@@ -69,6 +71,7 @@ abbrev pub call_numbers : Refuted → List ℕ
 call_numbers (evidence.PairTwice a b) = both_numbers a b
 call_numbers (evidence.NoWriter g) = decimal g
 call_numbers (evidence.StaleGet g w) = both_numbers g w
+call_numbers (evidence.MissedWrite g w) = both_numbers g w
 call_numbers (evidence.StaleSwap a b) = both_numbers a b
 call_numbers (evidence.RuledOut n) = decimal n
 

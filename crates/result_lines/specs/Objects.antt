@@ -49,6 +49,7 @@ abbrev pub calls_of : Refuted → Data
 calls_of (evidence.PairTwice a b) = both_calls a b
 calls_of (evidence.NoWriter g) = array (item (number (unsigned g)) no_items)
 calls_of (evidence.StaleGet g w) = both_calls g w
+calls_of (evidence.MissedWrite g w) = both_calls g w
 calls_of (evidence.StaleSwap a b) = both_calls a b
 calls_of (evidence.RuledOut n) = array (item (number (unsigned n)) no_items)
 

@@ -46,7 +46,9 @@ fn calls_value(alloc: Global, evidence: Refuted) -> Result<Value, NoMemory>
     match evidence {
         Refuted::PairTwice(one, two) => two_calls(alloc, one, two),
         Refuted::NoWriter(call) | Refuted::RuledOut(call) => json!(in alloc; [call]),
-        Refuted::StaleGet(get, write) => two_calls(alloc, get, write),
+        Refuted::StaleGet(get, write) | Refuted::MissedWrite(get, write) => {
+            two_calls(alloc, get, write)
+        }
         Refuted::StaleSwap(one, two) => two_calls(alloc, one, two),
     }
 }

@@ -14,6 +14,7 @@ pub fn kind_name(evidence: Refuted) -> &'static str
         Refuted::PairTwice(_, _) => "pair-twice",
         Refuted::NoWriter(_) => "no-writer",
         Refuted::StaleGet(_, _) => "stale-get",
+        Refuted::MissedWrite(_, _) => "missed-write",
         Refuted::StaleSwap(_, _) => "stale-swap",
         Refuted::RuledOut(_) => "ruled-out",
     }
@@ -33,7 +34,9 @@ fn call_numbers(alloc: Global, evidence: Refuted) -> Result<String, NoMemory>
     match evidence {
         Refuted::PairTwice(one, two) => numbers(alloc, one, two),
         Refuted::NoWriter(call) | Refuted::RuledOut(call) => format!(in alloc; "{call}"),
-        Refuted::StaleGet(get, write) => numbers(alloc, get, write),
+        Refuted::StaleGet(get, write) | Refuted::MissedWrite(get, write) => {
+            numbers(alloc, get, write)
+        }
         Refuted::StaleSwap(one, two) => numbers(alloc, one, two),
     }
 }

@@ -114,6 +114,7 @@ impl EvidenceCalls {
         let (first, second) = match evidence {
             Refuted::PairTwice(one, two)
             | Refuted::StaleGet(one, two)
+            | Refuted::MissedWrite(one, two)
             | Refuted::StaleSwap(one, two) => (one, Some(two)),
             Refuted::NoWriter(call) | Refuted::RuledOut(call) => (call, None),
         };

@@ -17,6 +17,9 @@ const NO_WRITER: &str =
 const STALE_GET: &str =
     "Call {1.no} ({1.asked}) was answered with the version {1.version} (line {1.replied}) before call {0.no}, a get, was made (line {0.called}). So each order has the write before the get. But the get was answered with {0.version} (line {0.replied}), which is older than {1.version}, and a document never goes back to an older version. So no order can have both replies.";
 
+const MISSED_WRITE: &str =
+    "Call {1.no} ({1.asked}) was answered with the version {1.version} (line {1.replied}) before call {0.no}, a get, was made (line {0.called}). So each order has the write before the get. But the get found nothing (line {0.replied}), and no delete that was called before that reply can have removed {2} after {1.version}. So no order can have both replies.";
+
 const STALE_SWAP: &str =
     "Call {1.no} was to be performed only if the document is still at the version {1.condition}, and it was performed (line {1.replied}). But call {0.no} had given the document the newer version {0.version} (line {0.replied}), and it comes first: ";
 
@@ -40,6 +43,7 @@ fn evidence_templates(evidence: Refuted, first: &Rec, second: &Rec) -> [&'static
         Refuted::PairTwice(..) => [PAIR_TWICE, "", ""],
         Refuted::NoWriter(_) => [NO_WRITER, "", ""],
         Refuted::StaleGet(..) => [STALE_GET, "", ""],
+        Refuted::MissedWrite(..) => [MISSED_WRITE, "", ""],
         Refuted::StaleSwap(..) => [STALE_SWAP, first_because(first, second), OVERWRITTEN],
         // Its reasons are those of its document.
         Refuted::RuledOut(_) => ["", "", ""],
