@@ -1,0 +1,10 @@
+mod TwinLemmas
+mod ShownLemmas
+mod ReadingLaws
+mod JudgedLemmas
+mod PeakLemmas
+mod GetLemmas
+mod OffenceLemmas
+mod HeededRecords
+mod JudgeLemmas
+mod UnexplainedLemmas

@@ -1,0 +1,4 @@
+pub mod Reading
+pub mod Gets
+pub mod Laws
+pub mod aids

@@ -1,0 +1,5 @@
+pub mod Judging
+pub mod Peaks
+pub mod Records
+pub mod Calls
+pub mod Unexplained

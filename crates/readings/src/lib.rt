@@ -1,0 +1,23 @@
+//! Readings of a history: what a store may promise less than that each reply shows the last change. A reading
+//! turns a history into one that the strict check judges, and says which gets are judged one by one.
+//!
+//! ```text
+//! let reading = Reading::opensearch();
+//! let judged = judged_history(&history, &voids, reading)?;
+//! let verdict = check_alone(alloc, judged, reading.conflicts_checked())?;
+//! ```
+#![tactic(auto)]
+
+mod document;
+mod judged;
+pub mod laws;
+mod peaks;
+mod reading;
+mod removers;
+mod sources;
+mod unexplained;
+
+pub use history::{Failed, TextRules, Voids, Writes};
+pub use judged::{is_repeatable_write, judged_history};
+pub use reading::{ConflictReading, Gets, Reading};
+pub use unexplained::{UnexplainedGet, unexplained_get};

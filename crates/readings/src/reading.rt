@@ -1,0 +1,89 @@
+ghost use Rattle.std.specs.Prelude.{◌≡◌};
+ghost use Rattle.readings.specs.Reading.{conflicts_as, strict_reading};
+
+use doc_register::Conflicts;
+use history::{Failed, TextRules, Writes};
+
+/// What a reply to a get shows.
+#[derive(Clone, Copy, Debug, PartialEq, Eq)]
+pub enum Gets {
+    /// The last change of the document.
+    Last,
+    /// The last change that the copy had which answered. So gets are judged one by one: each shows nothing
+    /// older than what was acknowledged before it was called, and nothing that nobody wrote.
+    Any,
+}
+
+/// What the status conflict shows.
+#[derive(Clone, Copy, Debug, PartialEq, Eq)]
+pub enum ConflictReading {
+    /// The write was not performed, since the document was in a state that refuses it.
+    Plain,
+    /// The same, or the write was performed: its first try, say.
+    Maybe,
+    /// Nothing: neither whether the write was performed, nor what the document was.
+    Unknown,
+}
+
+/// What a store promises, and so how its history is read.
+#[derive(Clone, Copy, Debug, PartialEq, Eq)]
+pub struct Reading {
+    /// What a reply to a get shows.
+    pub gets: Gets,
+    /// What the status conflict shows.
+    pub conflicts: ConflictReading,
+    /// How often a write is performed.
+    pub writes: Writes,
+    /// What lost lines say that are marked as void.
+    pub failed: Failed,
+}
+
+impl Reading {
+    /// Returns the strict reading, which leaves each event as it is.
+    pub fn strict() -> Reading
+        ensures { result ≡ strict_reading }
+    {
+        Reading {
+            gets: Gets::Last,
+            conflicts: ConflictReading::Plain,
+            writes: Writes::Once,
+            failed: Failed::Lost,
+        }
+    }
+
+    /// Returns the reading of OpenSearch's documentation: a realtime get may be answered by any active copy, a
+    /// conflict is tested against the state of the primary alone, and the coordinating node sends a write again
+    /// after it lost the connection to the primary.
+    ///
+    /// Two things that a cluster may do are accused: a write that is sent again twice, and a get from a copy
+    /// that has rolled back, since another one was promoted, and isn't in sync again.
+    pub fn opensearch() -> Reading {
+        Reading {
+            gets: Gets::Any,
+            conflicts: ConflictReading::Unknown,
+            writes: Writes::Repeated,
+            failed: Failed::Trusted,
+        }
+    }
+
+    /// Returns how the strict check reads the conflicts: whether a write that was answered with one may have been
+    /// performed.
+    pub fn conflicts_checked(self) -> Conflicts
+        ensures { result ≡ conflicts_as self.conflicts }
+    {
+        match self.conflicts {
+            ConflictReading::Plain => Conflicts::Plain,
+            ConflictReading::Maybe | ConflictReading::Unknown => Conflicts::Maybe,
+        }
+    }
+
+    /// Returns the rules by which a text is read.
+    pub fn rules(self) -> TextRules
+        ensures { result ≡ record { failed = self.failed; writes = self.writes } }
+    {
+        TextRules {
+            failed: self.failed,
+            writes: self.writes,
+        }
+    }
+}

@@ -1,0 +1,3 @@
+mod gets;
+mod judged;
+mod texts;
