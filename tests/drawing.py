@@ -2,7 +2,8 @@
 history.
 
 It is no test itself; tests/agree.py, tests/anomalies.py, tests/evidence.py, tests/lines.py, tests/offences.py,
-tests/orders.py, tests/ruled_out.py and tests/small_drawing.py draw with it.
+tests/orders.py, tests/readings.py, tests/ruled_out.py, tests/simulated_cluster.py and tests/small_drawing.py draw with
+it.
 """
 
 from typing import NamedTuple
@@ -84,17 +85,16 @@ def pair_taken(reply):
 NAMES = "abcd"
 
 
-def call_line(call, shard):
+def call_line(call, shard, name):
     more = "" if call.op.k is None else f',"k":{call.op.k}'
     if call.op.condition:
         more += texts.condition(*call.op.condition)
     if shard:
         more += f',"shard":{shard}'
-    return texts.call(call.number, call.op.name, more, NAMES[call.doc])
+    return texts.call(call.number, call.op.name, more, name)
 
 
-def reply_line(number, doc, reply):
-    name = NAMES[doc]
+def reply_line(number, reply, name):
     if reply.kind == "indexed":
         return (texts.created if reply.more else texts.updated)(number, *reply.pair, name)
     if reply.kind == "deleted":
@@ -104,13 +104,13 @@ def reply_line(number, doc, reply):
     return texts.missing(number, name) if reply == MISSING else texts.conflict(number)
 
 
-def lines(events, shard_of):
-    """The lines of a history of these events: one for each."""
+def lines(events, shard_of, names=NAMES):
+    """The lines of a history of these events, with the names of the documents: one for each."""
     doc_of = {it.number: it.doc for it in events if isinstance(it, Call)}
     for it in events:
         if isinstance(it, Call):
-            yield call_line(it, shard_of(it.doc))
+            yield call_line(it, shard_of(it.doc), names[it.doc])
         elif it.reply:
-            yield reply_line(it.number, doc_of[it.number], it.reply)
+            yield reply_line(it.number, it.reply, names[doc_of[it.number]])
         else:
             yield texts.lost(it.number)
