@@ -66,6 +66,7 @@ SECTIONS = (
         "cause, so that a refusal has one meaning. That both definitions agree is the law `TextsAreRead`.",
         (
             "history/specs/Reading.antt",
+            "history/specs/ByRules.antt",
             "api_lines/specs/Texts.antt",
             "events/specs/Refusal.antt",
             "history/specs/Faults.antt",
@@ -107,6 +108,17 @@ SECTIONS = (
         "their numbers, in the order in which `Refuted` has them.",
         (
             "evidence/specs/Evidence.antt",
+        ),
+    ),
+    (
+        "Readings",
+        "A store may promise less than that each reply shows the last change. A reading says what, turns a history "
+        "into one that the strict check judges, and says which gets are judged one by one. No command of the "
+        "program takes a reading yet: the program reads each history strictly.",
+        (
+            "readings/specs/Reading.antt",
+            "readings/specs/Gets.antt",
+            "readings/specs/Laws.antt",
         ),
     ),
     (
