@@ -1,10 +1,10 @@
-ghost use Rattle.std.specs.Prelude.{◌≡◌, ◌<◌, ◌≤◌, Err, IfErr, IfOk, IfSome, MatchResult, Ok, OnOk, OnSome, Result as Outcome, length};
+ghost use Rattle.std.specs.Prelude.{◌≡◌, ◌<◌, ◌≤◌, ℕ, Err, IfErr, IfOk, IfSome, List, MatchResult, Ok, OnOk, OnSome, Result as Outcome, length};
 ghost use Rattle.std.specs.Io.KnownBytes.{IsAtEnd, Keeps, prepend_known};
 ghost use Rattle.serde_json.specs.Data.{Data};
 ghost use Rattle.api_lines.specs.Faults.{IfTextReported};
 ghost use Rattle.api_lines.specs.Lines.{HasNoLineFeed, lines_of, most_lines};
 ghost use Rattle.api_lines.specs.Sources.{IsTakenFor, most_brought};
-ghost use Rattle.api_lines.specs.Texts.{SoFar, next_line as after_next, read_lines};
+ghost use Rattle.api_lines.specs.Texts.{IsReadTo, SoFar, next_line as after_next, read_lines};
 ghost use Rattle.api_lines.specs.declared.text_fault.TextCause.{TextCause as Cause};
 
 use crate::chunk::Chunk;
@@ -126,6 +126,9 @@ pub fn take_lines<L: LineReader, R: Read>(
     ensures reported { IfOk result (λ reported. IfSome (R.remaining input.old) (λ text. MatchResult reported
         (λ _. read_lines L.takes 1 (L.reached reader.old).state (lines_of text) ≡ Ok (L.reached reader.new).state)
         (λ refused. read_lines L.takes 1 (L.reached reader.old).state (lines_of text) ≡ Err refused.fault))) }
+    // If all lines are taken, the reader has taken those of some text, also if the input's bytes are not known.
+    ensures some { IfOk result (λ reported. OnOk reported ((text : List ℕ)
+        × IsReadTo L.takes (L.reached reader.old).state text (L.reached reader.new))) }
     // Whatever the result, no bytes after the first refused line are taken but those that the last read
     // returned, 32,768 at most; and of this line and all before it 4,194,304 times 65,537 bytes at most.
     ensures taken { IsTakenFor (λ text. read_lines L.takes 1 (L.reached reader.old).state (lines_of text))

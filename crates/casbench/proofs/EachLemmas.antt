@@ -21,17 +21,17 @@ use Rattle.command_line.specs.declared.form.Form.{Form}
 use Rattle.casbench.specs.declared.named_text.NamedText.{NamedText}
 use Rattle.casbench.specs.declared.outcome.Outcome.{Outcome}
 use Rattle.casbench.specs.declared.outcome.Outcome.TheVariants.{Answered}
-use Rattle.doc_register.specs.declared.state.Conflicts.{Conflicts}
+use Rattle.readings.specs.declared.reading.Reading.{Reading}
 use Rattle.evidence.specs.declared.ruling_out.RulingOut.{RulingOut}
 use Rattle.stream_io.specs.declared.status.Status.TheVariants.{Yes}
 
 -- of no text nothing is written
-pub nothing : (ruling : RulingOut) (conflicts : Conflicts) (least : ℕ) (form : Form) → AnswersEach ruling conflicts least form [] (Answered Yes) []
+pub nothing : (ruling : RulingOut) (reading : Reading) (least : ℕ) (form : Form) → AnswersEach ruling reading least form [] (Answered Yes) []
 unfolding greatest_from
-nothing ruling conflicts least form = record {
+nothing ruling reading least form = record {
   checked = [];
   each = refl;
-  answered = All-nil (λ (c : CheckedText). AnswersOne ruling conflicts least form c.text c.outcome c.line);
+  answered = All-nil (λ (c : CheckedText). AnswersOne ruling reading least form c.text c.outcome c.line);
   lines = refl;
   greatest = refl;
 }
@@ -44,52 +44,52 @@ greatest_more outcome [] c = refl
 greatest_more outcome (d ∷ cs) c = greatest_more (greater_outcome outcome d.outcome) cs c
 
 -- of one more text its line is added, and the outcome with the greater exit status counts
-pub one_more : (ruling : RulingOut) (conflicts : Conflicts) (least : ℕ) (form : Form) {texts : List Named} {before : Outcome} {lines : List ℕ} {text : Named} {outcome : Outcome} {line : List ℕ}
-    → AnswersEach ruling conflicts least form texts before lines → AnswersOne ruling conflicts least form text outcome line
-    → AnswersEach ruling conflicts least form (texts ++ text ∷ []) (greater_outcome before outcome) (lines ++ line)
-one_more ruling conflicts least form {texts} {before} {lines} {text} {outcome} {line} each one =
+pub one_more : (ruling : RulingOut) (reading : Reading) (least : ℕ) (form : Form) {texts : List Named} {before : Outcome} {lines : List ℕ} {text : Named} {outcome : Outcome} {line : List ℕ}
+    → AnswersEach ruling reading least form texts before lines → AnswersOne ruling reading least form text outcome line
+    → AnswersEach ruling reading least form (texts ++ text ∷ []) (greater_outcome before outcome) (lines ++ line)
+one_more ruling reading least form {texts} {before} {lines} {text} {outcome} {line} each one =
     let more : CheckedText = record { text = text; outcome = outcome; line = line } in
     record {
       checked = each.checked ++ more ∷ [];
       each = ap (λ ts. ts ++ text ∷ []) each.each ∙ sym (map-append (λ (c : CheckedText). c.text) each.checked (more ∷ []));
-      answered = All-push (λ (c : CheckedText). AnswersOne ruling conflicts least form c.text c.outcome c.line) each.checked more each.answered one;
+      answered = All-push (λ (c : CheckedText). AnswersOne ruling reading least form c.text c.outcome c.line) each.checked more each.answered one;
       lines = ap (λ ls. ls ++ line) each.lines ∙ flat_map_more (λ (c : CheckedText). c.line) [] each.checked more;
       greatest = ap (λ o. greater_outcome o outcome) each.greatest ∙ sym (greatest_more (Answered Yes) each.checked more);
     }
 
 -- what is written of a text answers it, with an outcome of its status and the number of its calls
-pub answers_one : (ruling : RulingOut) (conflicts : Conflicts) (least : ℕ) (form : Form) (name : List ℕ) (input : Option (List ℕ)) (it : Written) (outcome : Outcome)
-    → IsWrittenOf ruling conflicts form name input it → status_of outcome ≡ it.status → ((bytes : List ℕ) → CountsCalls bytes it.status it.calls → IsJudged least bytes outcome)
-    → AnswersOne ruling conflicts least form (name, input) outcome it.text.items
-answers_one ruling conflicts least form name input it outcome written same judged = record {
+pub answers_one : (ruling : RulingOut) (reading : Reading) (least : ℕ) (form : Form) (name : List ℕ) (input : Option (List ℕ)) (it : Written) (outcome : Outcome)
+    → IsWrittenOf ruling reading form name input it → status_of outcome ≡ it.status → ((bytes : List ℕ) → CountsCalls bytes it.status it.calls → IsJudged least bytes outcome)
+    → AnswersOne ruling reading least form (name, input) outcome it.text.items
+answers_one ruling reading least form name input it outcome written same judged = record {
   line = written.line;
   named = written.named;
-  answers = subst (λ (s : Status). AnswersInput ruling conflicts input s written.line) (sym same) written.answers;
+  answers = subst (λ (s : Status). AnswersInput ruling reading input s written.line) (sym same) written.answers;
   judged = IfSome_then input written.counted judged;
 }
 
 -- a check that ended came to what it returned
-pub has_come : (ruling : RulingOut) (conflicts : Conflicts) (form : Form) (workers : ℕ) (name : List ℕ) (input : Option (List ℕ)) (r : Result Written StreamFault)
-    → IfOk r (IsWrittenOf ruling conflicts form name input) → IfErr r IsCheckFault → (workers ≡ 1 → IfErr r IsReadingFault)
-    → HasCome ruling conflicts form workers name input (Some r)
-has_come ruling conflicts form workers name input (Ok it) written fault alone = written
-has_come ruling conflicts form workers name input (Err it) written fault alone = (fault, alone)
+pub has_come : (ruling : RulingOut) (reading : Reading) (form : Form) (workers : ℕ) (name : List ℕ) (input : Option (List ℕ)) (r : Result Written StreamFault)
+    → IfOk r (IsWrittenOf ruling reading form name input) → IfErr r IsCheckFault → (workers ≡ 1 → IfErr r IsReadingFault)
+    → HasCome ruling reading form workers name input (Some r)
+has_come ruling reading form workers name input (Ok it) written fault alone = written
+has_come ruling reading form workers name input (Err it) written fault alone = (fault, alone)
 
 -- of one more of the texts its line is added, which is written of it, as it is judged
-pub one_more_written : {S : Type 0} (remaining : S → Option (List ℕ)) (ruling : RulingOut) (conflicts : Conflicts) (least : ℕ) (form : Form) (texts : List (NamedText S)) (i : ℕ) (d : NamedText S)
+pub one_more_written : {S : Type 0} (remaining : S → Option (List ℕ)) (ruling : RulingOut) (reading : Reading) (least : ℕ) (form : Form) (texts : List (NamedText S)) (i : ℕ) (d : NamedText S)
     {before : Outcome} {lines : List ℕ} (it : Written) (outcome : Outcome) → i < length texts
-    → AnswersEach ruling conflicts least form (map (named_of remaining) (take i texts)) before lines
-    → IsWrittenOf ruling conflicts form (get_or texts i d).name.now (remaining (get_or texts i d).source) it → status_of outcome ≡ it.status
+    → AnswersEach ruling reading least form (map (named_of remaining) (take i texts)) before lines
+    → IsWrittenOf ruling reading form (get_or texts i d).name.now (remaining (get_or texts i d).source) it → status_of outcome ≡ it.status
     → ((bytes : List ℕ) → CountsCalls bytes it.status it.calls → IsJudged least bytes outcome)
-    → AnswersEach ruling conflicts least form (map (named_of remaining) (take (i + 1) texts)) (greater_outcome before outcome) (lines ++ it.text.items)
-one_more_written remaining ruling conflicts least form texts i d {before} {lines} it outcome within each written same judged =
+    → AnswersEach ruling reading least form (map (named_of remaining) (take (i + 1) texts)) (greater_outcome before outcome) (lines ++ it.text.items)
+one_more_written remaining ruling reading least form texts i d {before} {lines} it outcome within each written same judged =
     let text = get_or texts i d in
-    let one = answers_one ruling conflicts least form text.name.now (remaining text.source) it outcome written same judged in
+    let one = answers_one ruling reading least form text.name.now (remaining text.source) it outcome written same judged in
     let more : map (named_of remaining) (take (i + 1) texts) ≡ map (named_of remaining) (take i texts) ++ named_of remaining text ∷ [] =
     ap (λ n. map (named_of remaining) (take n texts)) (add-one i) ∙ ap (map (named_of remaining)) (take-suc texts i d within)
     ∙ map-append (named_of remaining) (take i texts) (text ∷ []) in
-    subst (λ ts. AnswersEach ruling conflicts least form ts (greater_outcome before outcome) (lines ++ it.text.items)) (sym more)
-    (one_more ruling conflicts least form each one)
+    subst (λ ts. AnswersEach ruling reading least form ts (greater_outcome before outcome) (lines ++ it.text.items)) (sym more)
+    (one_more ruling reading least form each one)
 
 -- ---- the texts of files
 

@@ -2,7 +2,7 @@
 use Rattle.std.proofs.Common.{ℕ, ◌≡◌, ◌≢◌, List, Option, Some, refl, subst, sym}
 use Rattle.std.proofs.lemmas.Option.{IfSome_then}
 use Rattle.casbench.specs.Objects.{IsObjectOn, IsWitnessInJson, VerifiesInJson}
-use Rattle.doc_register.specs.declared.state.Conflicts.{Conflicts}
+use Rattle.readings.specs.declared.reading.Reading.{Reading}
 use Rattle.evidence.specs.declared.ruling_out.RulingOut.{RulingOut}
 use Rattle.report.specs.Details.{status_of}
 use Rattle.report.specs.Verdict.{IsWitnessAnswer, VerifiesInputs}
@@ -12,16 +12,16 @@ use Rattle.stream_io.specs.declared.status.Status.{Status}
 use Rattle.stream_io.specs.declared.status.Status.TheVariants.{Yes, No, Refuted, Refused}
 
 -- the object of a line that is not yes
-pub answered_in_json : (file : List ℕ) (ruling : RulingOut) (conflicts : Conflicts) (input : List ℕ) (status : Status) (line text : List ℕ) → status ≢ Yes
-    → IsWitnessAnswer ruling conflicts input status line → IsObjectOn conflicts file (Some input) line text → IsWitnessInJson file ruling conflicts input status text
-answered_in_json file ruling conflicts input Yes line text not_yes is object = absurd (not_yes refl)
-answered_in_json file ruling conflicts input No line text not_yes is object = (line, is, object)
-answered_in_json file ruling conflicts input Refuted line text not_yes is object = (line, is, object)
-answered_in_json file ruling conflicts input Refused line text not_yes is object = (line, is, object)
+pub answered_in_json : (file : List ℕ) (ruling : RulingOut) (reading : Reading) (input : List ℕ) (status : Status) (line text : List ℕ) → status ≢ Yes
+    → IsWitnessAnswer ruling reading input status line → IsObjectOn reading file (Some input) line text → IsWitnessInJson file ruling reading input status text
+answered_in_json file ruling reading input Yes line text not_yes is object = absurd (not_yes refl)
+answered_in_json file ruling reading input No line text not_yes is object = (line, is, object)
+answered_in_json file ruling reading input Refuted line text not_yes is object = (line, is, object)
+answered_in_json file ruling reading input Refused line text not_yes is object = (line, is, object)
 
 -- the object of what is reported of a witness
-pub verified_in_json : (file : List ℕ) (conflicts : Conflicts) (history witness : Option (List ℕ)) (said : Reported) (status : Status) (text : List ℕ) → status ≡ status_of said
-    → VerifiesInputs conflicts history witness (status_of said) (line_of said) → ((h : List ℕ) → IsObjectOn conflicts file (Some h) (line_of said) text) → VerifiesInJson file conflicts history witness status text
-verified_in_json file conflicts history witness said status text same verifies object =
-    subst (λ (s : Status). VerifiesInJson file conflicts history witness s text) (sym same)
+pub verified_in_json : (file : List ℕ) (reading : Reading) (history witness : Option (List ℕ)) (said : Reported) (status : Status) (text : List ℕ) → status ≡ status_of said
+    → VerifiesInputs reading history witness (status_of said) (line_of said) → ((h : List ℕ) → IsObjectOn reading file (Some h) (line_of said) text) → VerifiesInJson file reading history witness status text
+verified_in_json file reading history witness said status text same verifies object =
+    subst (λ (s : Status). VerifiesInJson file reading history witness s text) (sym same)
     (IfSome_then history verifies (λ h both. IfSome_then witness both (λ w is. (line_of said, is, object h))))

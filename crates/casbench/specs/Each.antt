@@ -11,7 +11,7 @@ use Rattle.command_line.specs.declared.form.Form.TheVariants.{Lines, Objects}
 use Rattle.casbench.specs.declared.named_text.NamedText.{NamedText}
 use Rattle.casbench.specs.declared.outcome.Outcome.{Outcome}
 use Rattle.casbench.specs.declared.outcome.Outcome.TheVariants.{Answered}
-use Rattle.doc_register.specs.declared.state.Conflicts.{Conflicts}
+use Rattle.readings.specs.declared.reading.Reading.{Reading}
 use Rattle.evidence.specs.declared.ruling_out.RulingOut.{RulingOut}
 use Rattle.report.specs.Verdict.{AnswersInput}
 use Rattle.stream_io.specs.declared.status.Status.TheVariants.{Yes}
@@ -29,19 +29,19 @@ named_of remaining text = (text.name.now, remaining text.source)
 -- what is written of a text in this form, if this is its line: the line behind the text's name and a colon; or the
 -- object of the line (`IsObjectOn`)
 -- Source: profile.
-abbrev pub IsInForm : Conflicts → Form → List ℕ → Option (List ℕ) → List ℕ → List ℕ → Type 0
-IsInForm conflicts Lines name input line written = written ≡ name ++ (codes ": " ++ line)
-IsInForm conflicts Objects name input line written = IsObjectOn conflicts name input line written
+abbrev pub IsInForm : Reading → Form → List ℕ → Option (List ℕ) → List ℕ → List ℕ → Type 0
+IsInForm reading Lines name input line written = written ≡ name ++ (codes ": " ++ line)
+IsInForm reading Objects name input line written = IsObjectOn reading name input line written
 
 -- What is written of one text: a line, in this form, which answers the bytes as a check of the text alone does
 -- (`AnswersInput`, `IsJudged`).
 -- Source: profile.
-pub record AnswersOne (ruling : RulingOut) (conflicts : Conflicts) (least : ℕ) (form : Form) (text : Named) (outcome : Outcome) (written : List ℕ) : Type 0 where
+pub record AnswersOne (ruling : RulingOut) (reading : Reading) (least : ℕ) (form : Form) (text : Named) (outcome : Outcome) (written : List ℕ) : Type 0 where
   pub line : List ℕ
   -- it is written in this form
-  pub named : IsInForm conflicts form text.0 text.1 line written
+  pub named : IsInForm reading form text.0 text.1 line written
   -- it answers the bytes, with the status of the outcome
-  pub answers : AnswersInput ruling conflicts text.1 (status_of outcome) line
+  pub answers : AnswersInput ruling reading text.1 (status_of outcome) line
   -- a yes is about fewer calls than are asked for just if the outcome is `TooFew`
   pub judged : IfSome text.1 (λ input. IsJudged least input outcome)
 
@@ -59,12 +59,12 @@ greatest_from outcome (c ∷ cs) = greatest_from (greater_outcome outcome c.outc
 
 -- What is written of several texts in a form, and what it comes to.
 -- Source: profile.
-pub record AnswersEach (ruling : RulingOut) (conflicts : Conflicts) (least : ℕ) (form : Form) (texts : List Named) (outcome : Outcome) (written : List ℕ) : Type 0 where
+pub record AnswersEach (ruling : RulingOut) (reading : Reading) (least : ℕ) (form : Form) (texts : List Named) (outcome : Outcome) (written : List ℕ) : Type 0 where
   pub checked : List CheckedText
   -- each of the texts was checked, in their order
   pub each : texts ≡ map (λ c. c.text) checked
   -- the line of each answers its bytes (`AnswersOne`)
-  pub answered : All (λ c. AnswersOne ruling conflicts least form c.text c.outcome c.line) checked
+  pub answered : All (λ c. AnswersOne ruling reading least form c.text c.outcome c.line) checked
   -- the lines are written in this order
   pub lines : written ≡ flat_map (λ c. c.line) checked
   -- the outcome is that with the greatest exit status; of no text it is yes
@@ -86,6 +86,6 @@ or_input (name ∷ names) = name ∷ names
 
 -- the writer holds, after what it held, a prefix of what is written of the texts, which may be empty, or all of it
 -- Source: profile.
-abbrev pub IsCutOffEach : RulingOut → Conflicts → ℕ → Form → List Named → Option (List ℕ) → Option (List ℕ) → Type 0
-IsCutOffEach ruling conflicts least form texts old new =
-    (outcome : Outcome) × (written : List ℕ) × (n : ℕ) × Appends old new (take n written) × AnswersEach ruling conflicts least form texts outcome written
+abbrev pub IsCutOffEach : RulingOut → Reading → ℕ → Form → List Named → Option (List ℕ) → Option (List ℕ) → Type 0
+IsCutOffEach ruling reading least form texts old new =
+    (outcome : Outcome) × (written : List ℕ) × (n : ℕ) × Appends old new (take n written) × AnswersEach ruling reading least form texts outcome written

@@ -9,11 +9,11 @@ use Rattle.stream_io.specs.declared.stream_fault.StreamFault.{StreamFault}
 -- `IsRunFault` of a run or a search, `IsStreamFault` of any other
 -- Source: profile.
 abbrev pub MayFail : Request → StreamFault → Type 0
-MayFail (request.Check file conflicts workers ruling least) fault = IsWorkedFault fault
-MayFail (request.CheckEach files form conflicts workers ruling least) fault = IsWorkedFault fault
-MayFail (request.Witness file form conflicts ruling) fault = IsStreamFault fault
-MayFail (request.Verify history witness form conflicts) fault = IsStreamFault fault
+MayFail (request.Check file reading workers ruling least) fault = IsWorkedFault fault
+MayFail (request.CheckEach files form reading workers ruling least) fault = IsWorkedFault fault
+MayFail (request.Witness file form reading ruling) fault = IsStreamFault fault
+MayFail (request.Verify history witness form reading) fault = IsStreamFault fault
 MayFail (request.Bulk body reply first) fault = IsStreamFault fault
 MayFail (request.Run setting manner) fault = IsRunFault fault
 MayFail (request.Search seeds setting disturbance) fault = IsRunFault fault
-MayFail (request.Explain file form conflicts workers ruling page) fault = IsWorkedFault fault
+MayFail (request.Explain file form reading workers ruling page) fault = IsWorkedFault fault

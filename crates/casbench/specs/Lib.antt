@@ -5,4 +5,5 @@ pub mod Input
 pub mod Objects
 pub mod Outcomes
 pub mod Requests
+pub mod Readings
 pub mod aids

@@ -1,8 +1,9 @@
 -- What is written in objects of JSON.
 use Rattle.std.specs.Prelude.{◌≡◌, ℕ, List, Option, IfSome, Some}
+use Rattle.casbench.specs.Readings.{IsNamedReading}
 use Rattle.command_line.specs.declared.form.Form.{Form}
 use Rattle.command_line.specs.declared.form.Form.TheVariants.{Lines, Objects}
-use Rattle.doc_register.specs.declared.state.Conflicts.{Conflicts}
+use Rattle.readings.specs.declared.reading.Reading.{Reading}
 use Rattle.evidence.specs.declared.ruling_out.RulingOut.{RulingOut}
 use Rattle.report.specs.Details.{IsProvedOf}
 use Rattle.report.specs.Explained.{ExplainsInput}
@@ -16,7 +17,7 @@ use Rattle.stream_io.specs.declared.status.Status.TheVariants.{Yes, No, Refuted,
 -- The text is an object whose members are those of this line, of a history that the file of this name had as
 -- these bytes, if they are known, with other facts.
 -- Source: profile.
-pub record IsObjectOn (conflicts : Conflicts) (file : List ℕ) (input : Option (List ℕ)) (line text : List ℕ) : Type 0 where
+pub record IsObjectOn (reading : Reading) (file : List ℕ) (input : Option (List ℕ)) (line text : List ℕ) : Type 0 where
   pub reported : Reported
   pub facts : Facts
   -- the line reports it
@@ -24,53 +25,55 @@ pub record IsObjectOn (conflicts : Conflicts) (file : List ℕ) (input : Option 
   -- the file is named
   pub named : facts.file.now ≡ file
   -- what is said to be proved of the bytes is (`IsProvedOf`)
-  pub proved : IfSome input (λ bytes. IsProvedOf conflicts bytes reported facts.proved)
+  pub proved : IfSome input (λ bytes. IsProvedOf reading bytes reported facts.proved)
+  -- the reading is named, unless it leaves each event as it is
+  pub by_reading : IsNamedReading reading facts.reading
   pub written : text ≡ object_text reported facts
 
 -- what is written if a witness is asked for: the text of one if the status is Yes; else the object of the line of a
 -- check, of the history of this file (`IsWitnessAnswer`, `IsObjectOn`)
 -- Source: profile.
-abbrev pub IsWitnessInJson : List ℕ → RulingOut → Conflicts → List ℕ → Status → List ℕ → Type 0
-IsWitnessInJson file ruling conflicts input Yes text = IsWitnessAnswer ruling conflicts input Yes text
-IsWitnessInJson file ruling conflicts input No text = (line : List ℕ) × IsWitnessAnswer ruling conflicts input No line × IsObjectOn conflicts file (Some input) line text
-IsWitnessInJson file ruling conflicts input Refuted text = (line : List ℕ) × IsWitnessAnswer ruling conflicts input Refuted line × IsObjectOn conflicts file (Some input) line text
-IsWitnessInJson file ruling conflicts input Refused text = (line : List ℕ) × IsWitnessAnswer ruling conflicts input Refused line × IsObjectOn conflicts file (Some input) line text
+abbrev pub IsWitnessInJson : List ℕ → RulingOut → Reading → List ℕ → Status → List ℕ → Type 0
+IsWitnessInJson file ruling reading input Yes text = IsWitnessAnswer ruling reading input Yes text
+IsWitnessInJson file ruling reading input No text = (line : List ℕ) × IsWitnessAnswer ruling reading input No line × IsObjectOn reading file (Some input) line text
+IsWitnessInJson file ruling reading input Refuted text = (line : List ℕ) × IsWitnessAnswer ruling reading input Refuted line × IsObjectOn reading file (Some input) line text
+IsWitnessInJson file ruling reading input Refused text = (line : List ℕ) × IsWitnessAnswer ruling reading input Refused line × IsObjectOn reading file (Some input) line text
 
 -- the same for the bytes that the reader had, if they are known
-abbrev pub WitnessesInJson : List ℕ → RulingOut → Conflicts → Option (List ℕ) → Status → List ℕ → Type 0
-WitnessesInJson file ruling conflicts input status text = IfSome input (λ bytes. IsWitnessInJson file ruling conflicts bytes status text)
+abbrev pub WitnessesInJson : List ℕ → RulingOut → Reading → Option (List ℕ) → Status → List ℕ → Type 0
+WitnessesInJson file ruling reading input status text = IfSome input (λ bytes. IsWitnessInJson file ruling reading bytes status text)
 
 -- what is written of a check of a witness: the object of its line, of the history of this file, for the bytes that the
 -- two readers had, if they are known (`IsVerifyAnswer`, `IsObjectOn`)
 -- Source: profile.
-abbrev pub VerifiesInJson : List ℕ → Conflicts → Option (List ℕ) → Option (List ℕ) → Status → List ℕ → Type 0
-VerifiesInJson file conflicts history witness status text =
-    IfSome history (λ h. IfSome witness (λ w. (line : List ℕ) × IsVerifyAnswer conflicts h w status line × IsObjectOn conflicts file (Some h) line text))
+abbrev pub VerifiesInJson : List ℕ → Reading → Option (List ℕ) → Option (List ℕ) → Status → List ℕ → Type 0
+VerifiesInJson file reading history witness status text =
+    IfSome history (λ h. IfSome witness (λ w. (line : List ℕ) × IsVerifyAnswer reading h w status line × IsObjectOn reading file (Some h) line text))
 
 -- what is written of a check that is explained: the object of its line, of the history of this file, for the bytes
 -- that the reader had, if they are known (`AnswersInput`, `IsObjectOn`)
 -- Source: profile.
-abbrev pub ExplainsInJson : List ℕ → RulingOut → Conflicts → Option (List ℕ) → Status → List ℕ → Type 0
-ExplainsInJson file ruling conflicts input status text =
-    (line : List ℕ) × AnswersInput ruling conflicts input status line × IsObjectOn conflicts file input line text
+abbrev pub ExplainsInJson : List ℕ → RulingOut → Reading → Option (List ℕ) → Status → List ℕ → Type 0
+ExplainsInJson file ruling reading input status text =
+    (line : List ℕ) × AnswersInput ruling reading input status line × IsObjectOn reading file input line text
 
 -- ---- in lines or in objects, as is asked for
 
 -- what is written if a witness is asked for (`WitnessesInput`, `WitnessesInJson`)
 -- Source: profile.
-abbrev pub WitnessesInForm : Form → List ℕ → RulingOut → Conflicts → Option (List ℕ) → Status → List ℕ → Type 0
-WitnessesInForm Lines file ruling conflicts input status text = WitnessesInput ruling conflicts input status text
-WitnessesInForm Objects file ruling conflicts input status text = WitnessesInJson file ruling conflicts input status text
+abbrev pub WitnessesInForm : Form → List ℕ → RulingOut → Reading → Option (List ℕ) → Status → List ℕ → Type 0
+WitnessesInForm Lines file ruling reading input status text = WitnessesInput ruling reading input status text
+WitnessesInForm Objects file ruling reading input status text = WitnessesInJson file ruling reading input status text
 
 -- what is written of a check of a witness (`VerifiesInputs`, `VerifiesInJson`)
 -- Source: profile.
-abbrev pub VerifiesInForm : Form → List ℕ → Conflicts → Option (List ℕ) → Option (List ℕ) → Status → List ℕ → Type 0
-VerifiesInForm Lines file conflicts history witness status text = VerifiesInputs conflicts history witness status text
-VerifiesInForm Objects file conflicts history witness status text = VerifiesInJson file conflicts history witness status text
+abbrev pub VerifiesInForm : Form → List ℕ → Reading → Option (List ℕ) → Option (List ℕ) → Status → List ℕ → Type 0
+VerifiesInForm Lines file reading history witness status text = VerifiesInputs reading history witness status text
+VerifiesInForm Objects file reading history witness status text = VerifiesInJson file reading history witness status text
 
 -- what is written of a history that is explained: in lines the text begins with the line of a check (`ExplainsInput`);
 -- in objects it is the object of one (`ExplainsInJson`)
 -- Source: profile.
-abbrev pub ExplainsInForm : Form → List ℕ → RulingOut → Conflicts → Option (List ℕ) → Status → List ℕ → Type 0
-ExplainsInForm Lines file ruling conflicts input status text = ExplainsInput ruling conflicts input status text
-ExplainsInForm Objects file ruling conflicts input status text = ExplainsInJson file ruling conflicts input status text
+abbrev pub ExplainsInForm : Form → List ℕ → RulingOut → Reading → Option (List ℕ) → Status → List ℕ → Type 0
+ExplainsInForm Lines file ruling reading input status text = ExplainsInput ruling reading input status text
+ExplainsInForm Objects file ruling reading input status text = ExplainsInJson file ruling reading input status text

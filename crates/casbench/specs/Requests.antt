@@ -10,7 +10,7 @@ use Rattle.casbench.specs.declared.outcome.Outcome.TheVariants.{Answered}
 use Rattle.command_line.specs.declared.request.Request.{Request}
 use Rattle.command_line.specs.declared.request.Request.TheVariants as request
 use Rattle.doc_register.specs.declared.op.Op.{Op}
-use Rattle.doc_register.specs.declared.state.Conflicts.{Conflicts}
+use Rattle.readings.specs.declared.reading.Reading.{Reading}
 use Rattle.evidence.specs.declared.ruling_out.RulingOut.{RulingOut}
 use Rattle.recorded_runs.specs.Runs.{IsRunText, IsTextInTurns}
 use Rattle.recorded_runs.specs.declared.manner.Playing.TheVariants.{InTurns}
@@ -24,9 +24,9 @@ use Rattle.workload.specs.declared.target.Ticket.{Ticket}
 -- The line of a check was written, which answers the input, and a yes is about fewer calls than are asked for just if
 -- the outcome is `TooFew`.
 -- Source: profile.
-abbrev pub AnswersCheck : RulingOut → Conflicts → ℕ → Option (List ℕ) → Option (List ℕ) → Option (List ℕ) → Outcome → Type 0
-AnswersCheck ruling conflicts least input old new outcome =
-    IsAnswered ruling conflicts input old new (status_of outcome) × IfSome input (λ bytes. IsJudged least bytes outcome)
+abbrev pub AnswersCheck : RulingOut → Reading → ℕ → Option (List ℕ) → Option (List ℕ) → Option (List ℕ) → Outcome → Type 0
+AnswersCheck ruling reading least input old new outcome =
+    IsAnswered ruling reading input old new (status_of outcome) × IfSome input (λ bytes. IsJudged least bytes outcome)
 
 -- What the target of a run issued tickets for, and what it gave when they were polled; what standard input has, and
 -- what the writer held before and holds after.
@@ -40,40 +40,40 @@ module _ (issued : Ticket → List ℕ → Op → Type 0) (gave : Ticket → Pro
   -- file.
   -- Source: profile.
   abbrev pub Answers : Request → Outcome → Type 0
-  Answers (request.Check file conflicts workers ruling least) outcome =
-      names_input (option_map (λ t. t.now) file) ≡ true → AnswersCheck ruling conflicts least input old new outcome
-  Answers (request.CheckEach files form conflicts workers ruling least) outcome =
+  Answers (request.Check file reading workers ruling least) outcome =
+      names_input (option_map (λ t. t.now) file) ≡ true → AnswersCheck ruling reading least input old new outcome
+  Answers (request.CheckEach files form reading workers ruling least) outcome =
       (texts : List Named) × AreOfFiles (or_input (map (λ f. f.now) files.items)) input texts
-      × HasAnswer (AnswersEach ruling conflicts least form texts outcome) old new
-  Answers (request.Witness file form conflicts ruling) outcome =
+      × HasAnswer (AnswersEach ruling reading least form texts outcome) old new
+  Answers (request.Witness file form reading ruling) outcome =
       names_input (option_map (λ t. t.now) file) ≡ true
-      → IsAnswerWith (λ status. HasAnswer (WitnessesInForm form (name_of (option_map (λ t. t.now) file)) ruling conflicts input status) old new) outcome
-  Answers (request.Verify history witness form conflicts) outcome = Unit {0}
+      → IsAnswerWith (λ status. HasAnswer (WitnessesInForm form (name_of (option_map (λ t. t.now) file)) ruling reading input status) old new) outcome
+  Answers (request.Verify history witness form reading) outcome = Unit {0}
   Answers (request.Bulk body reply first) outcome = Unit {0}
   Answers (request.Run setting manner) outcome =
       (outcome ≡ Answered Yes) × HasAnswer (IsRunText issued gave setting) old new
       × (manner.playing ≡ InTurns → HasAnswer (IsTextInTurns setting manner.disturbance) old new)
   Answers (request.Search seeds setting disturbance) outcome = IsAnswerWith (IsSearched issued gave disturbance setting seeds.first seeds.last old new) outcome
-  Answers (request.Explain file form conflicts workers ruling page) outcome =
+  Answers (request.Explain file form reading workers ruling page) outcome =
       names_input (option_map (λ t. t.now) file) ≡ true
-      → IsAnswerWith (λ status. HasAnswer (ExplainsInForm form (name_of (option_map (λ t. t.now) file)) ruling conflicts input status) old new) outcome
+      → IsAnswerWith (λ status. HasAnswer (ExplainsInForm form (name_of (option_map (λ t. t.now) file)) ruling reading input status) old new) outcome
 
   -- The writer holds, after what it held, a prefix of what answers the request, which may be empty or all of it; of an
   -- explanation it may hold no more than it held, since a page can fail before. Of files nothing is said, as above.
   -- Source: profile.
   abbrev pub IsCutShort : Request → Type 0
-  IsCutShort (request.Check file conflicts workers ruling least) =
-      names_input (option_map (λ t. t.now) file) ≡ true → IsCutOff ruling conflicts input old new
-  IsCutShort (request.CheckEach files form conflicts workers ruling least) =
-      (texts : List Named) × AreOfFiles (or_input (map (λ f. f.now) files.items)) input texts × IsCutOffEach ruling conflicts least form texts old new
-  IsCutShort (request.Witness file form conflicts ruling) =
+  IsCutShort (request.Check file reading workers ruling least) =
+      names_input (option_map (λ t. t.now) file) ≡ true → IsCutOff ruling reading input old new
+  IsCutShort (request.CheckEach files form reading workers ruling least) =
+      (texts : List Named) × AreOfFiles (or_input (map (λ f. f.now) files.items)) input texts × IsCutOffEach ruling reading least form texts old new
+  IsCutShort (request.Witness file form reading ruling) =
       names_input (option_map (λ t. t.now) file) ≡ true
-      → HasPrefix (WitnessesInForm form (name_of (option_map (λ t. t.now) file)) ruling conflicts input) old new
-  IsCutShort (request.Verify history witness form conflicts) = Unit {0}
+      → HasPrefix (WitnessesInForm form (name_of (option_map (λ t. t.now) file)) ruling reading input) old new
+  IsCutShort (request.Verify history witness form reading) = Unit {0}
   IsCutShort (request.Bulk body reply first) = Unit {0}
   IsCutShort (request.Run setting manner) = HasPrefix (λ _. IsRunText issued gave setting) old new
   IsCutShort (request.Search seeds setting disturbance) =
       HasPrefix (λ _. IsFoundText issued gave disturbance setting seeds.first seeds.last) old new
-  IsCutShort (request.Explain file form conflicts workers ruling page) =
+  IsCutShort (request.Explain file form reading workers ruling page) =
       names_input (option_map (λ t. t.now) file) ≡ true
-      → HasPrefix (ExplainsInForm form (name_of (option_map (λ t. t.now) file)) ruling conflicts input) old new ⊎ Keeps old new
+      → HasPrefix (ExplainsInForm form (name_of (option_map (λ t. t.now) file)) ruling reading input) old new ⊎ Keeps old new

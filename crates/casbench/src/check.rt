@@ -11,7 +11,9 @@ use crate::host::{CheckTask, Host};
 use crate::notes::note_calls;
 use crate::outcome::{Outcome, outcome_of};
 use crate::progress_line::ProgressLine;
-use report::{StreamFault, check_text, write_answer};
+use report::{
+    AnswerText, Kept, StreamFault, calls_reported, check_details, status_of, write_answer,
+};
 use std::io::{Read, Write};
 use std::rt::Files;
 use std::sync::Wait;
@@ -35,11 +37,11 @@ pub fn check_file<F: Files + Eprint, T: Threads + Wait + Sync, I: Read + Drop, W
     // If no file is named, or `-`, the writer holds the line that answers the input, after what it held; a yes is about
     // fewer calls than are asked for exactly if the outcome is `TooFew`.
     ensures answered { names_input (option_map (λ t. t.now) file.entry) ≡ true
-        → IfOk result (AnswersCheck task.options.ruling_out task.options.conflicts task.at_least (I.remaining input)
+        → IfOk result (AnswersCheck task.options.ruling_out task.options.reading task.at_least (I.remaining input)
         (W.contents writer.old) (W.contents writer.new)) }
     // After `Write` it then holds a prefix of such a line.
     ensures cut_off { IsErrOf result StreamFault.Write → names_input (option_map (λ t. t.now) file.entry) ≡ true
-        → IsCutOff task.options.ruling_out task.options.conflicts (I.remaining input) (W.contents writer.old)
+        → IsCutOff task.options.ruling_out task.options.reading (I.remaining input) (W.contents writer.old)
         (W.contents writer.new) }
     // After any other error it holds what it held.
     ensures kept { IfErr result (λ fault. fault ≢ StreamFault.Write
@@ -52,16 +54,20 @@ pub fn check_file<F: Files + Eprint, T: Threads + Wait + Sync, I: Read + Drop, W
     ensures named { names_input (option_map (λ t. t.now) file.entry) ≡ true → IfErr result (NamesOwnDocument (I.remaining input)) }
 {
     let mut history = open_or(host.rt, file, input)?;
-    let found = check_text(
+    let details = check_details(
         host.threads,
         host.alloc,
         host.keys,
         &mut history,
         task.options,
         line.progress(),
+        Kept::Nothing,
     )?;
+    let status = status_of(&details.reported);
+    let calls = calls_reported(&details.reported);
+    let answer = AnswerText::of(status, details.reported.line(host.alloc)?);
     line.end(host.rt, host.threads);
-    let status = write_answer(writer, &found.answer)?;
-    note_calls(host.rt, host.alloc, file, found.calls, task.at_least);
-    Ok(outcome_of(status, found.calls, task.at_least))
+    let status = write_answer(writer, &answer)?;
+    note_calls(host.rt, host.alloc, file, calls, task.at_least);
+    Ok(outcome_of(status, calls, task.at_least))
 }

@@ -19,7 +19,7 @@ use crate::stopwatch::Stopwatch;
 use command_line::Form;
 use report::{
     CheckOptions, CheckProgress, Kept, Status, StreamFault, calls_reported, check_details,
-    check_text, status_of,
+    status_of,
 };
 use std::alloc::{AllocError, Global};
 use std::io::{Read, Seek, Write};
@@ -49,22 +49,24 @@ fn check_in_line<F, T: Threads + Wait + Sync, S: Read>(
     progress: &CheckProgress,
 ) -> Result<Written, StreamFault>
     requires workers { AreWorkers options.workers }
-    ensures answered { IfOk result (IsWrittenOf options.ruling_out options.conflicts Form.Lines name.now (S.remaining source.old)) }
+    ensures answered { IfOk result (IsWrittenOf options.ruling_out options.reading Form.Lines name.now (S.remaining source.old)) }
     ensures reported { IfErr result IsCheckFault }
     ensures alone { options.workers ≡ 1 → IfErr result IsReadingFault }
 {
-    let found = check_text(
+    let details = check_details(
         host.threads,
         host.alloc,
         host.keys,
         source,
         options,
         progress,
+        Kept::Nothing,
     )?;
+    let line = details.reported.line(host.alloc)?;
     Ok(Written {
-        status: found.answer.status,
-        calls: found.calls,
-        text: named_line(host.alloc, name, &found.answer.text)?,
+        status: status_of(&details.reported),
+        calls: calls_reported(&details.reported),
+        text: named_line(host.alloc, name, line.as_bytes())?,
     })
 }
 
@@ -78,7 +80,7 @@ fn check_in_object<F: Clock, T: Threads + Wait + Sync, S: Read + Seek>(
     progress: &CheckProgress,
 ) -> Result<Written, StreamFault>
     requires workers { AreWorkers options.workers }
-    ensures answered { IfOk result (IsWrittenOf options.ruling_out options.conflicts Form.Objects name.now (S.remaining source.old)) }
+    ensures answered { IfOk result (IsWrittenOf options.ruling_out options.reading Form.Objects name.now (S.remaining source.old)) }
     ensures reported { IfErr result IsCheckFault }
     ensures alone { options.workers ≡ 1 → IfErr result IsReadingFault }
 {
@@ -100,6 +102,7 @@ fn check_in_object<F: Clock, T: Threads + Wait + Sync, S: Read + Seek>(
             host.alloc,
             name,
             details,
+            options.reading,
             None,
             stopwatch.milliseconds(host.rt),
         )?,
@@ -117,7 +120,7 @@ fn check_in_form<F: Clock, T: Threads + Wait + Sync, S: Read + Seek>(
     progress: &CheckProgress,
 ) -> Result<Written, StreamFault>
     requires workers { AreWorkers options.workers }
-    ensures answered { IfOk result (IsWrittenOf options.ruling_out options.conflicts form name.now (S.remaining source.old)) }
+    ensures answered { IfOk result (IsWrittenOf options.ruling_out options.reading form name.now (S.remaining source.old)) }
     ensures reported { IfErr result IsCheckFault }
     ensures alone { options.workers ≡ 1 → IfErr result IsReadingFault }
 {
@@ -133,7 +136,7 @@ fn shared_out(options: CheckOptions, texts: usize) -> CheckOptions
     requires workers { AreWorkers options.workers }
     ensures workers { AreWorkers result.workers }
     ensures alone { options.workers ≡ 1 → result.workers ≡ 1 }
-    ensures conflicts { result.conflicts ≡ options.conflicts }
+    ensures reading { result.reading ≡ options.reading }
     ensures ruling_out { result.ruling_out ≡ options.ruling_out }
 {
     CheckOptions {
@@ -153,7 +156,7 @@ fn check_named<F: Clock, T: Threads + Wait + Sync, S: Read + Seek>(
 )
     requires some { 1 ≤ beside }
     requires workers { AreWorkers options.workers }
-    ensures { IsChecked S.remaining options.ruling_out options.conflicts form options.workers text.old text.new }
+    ensures { IsChecked S.remaining options.ruling_out options.reading form options.workers text.old text.new }
 {
     let own = shared_out(options, beside);
     let name = text.name;
@@ -170,7 +173,7 @@ fn check_all<F: Clock + Sync, T: Threads + Wait + Sync, S: Read + Seek + Send>(
     progress: &CheckProgress,
 )
     requires workers { AreWorkers options.workers }
-    ensures checked { AreChecked S.remaining options.ruling_out options.conflicts form options.workers texts.old texts.new }
+    ensures checked { AreChecked S.remaining options.ruling_out options.reading form options.workers texts.old texts.new }
     ensures all { length texts.new ≡ length texts.old }
 {
     let beside = texts.len().clamp(1, options.workers);
@@ -206,7 +209,7 @@ fn checked_texts<F: Clock + Sync, T: Threads + Wait + Sync, S: Read + Seek + Sen
     progress: &CheckProgress,
 ) -> Result<(Outcome, Vec<u8>), StreamFault>
     requires workers { AreWorkers task.options.workers }
-    ensures answered { IfOk result (λ made. AnswersEach task.options.ruling_out task.options.conflicts task.at_least form (map (named_of S.remaining) texts.old)
+    ensures answered { IfOk result (λ made. AnswersEach task.options.ruling_out task.options.reading task.at_least form (map (named_of S.remaining) texts.old)
         made.0 made.1.items) }
     ensures reported { IfErr result IsCheckFault }
     ensures alone { task.options.workers ≡ 1 → IfErr result IsReadingFault }
@@ -256,10 +259,10 @@ fn check_each<
     line: &ProgressLine,
 ) -> Result<Outcome, StreamFault>
     requires workers { AreWorkers task.options.workers }
-    ensures answered { IfOk result (λ outcome. HasAnswer (AnswersEach task.options.ruling_out task.options.conflicts task.at_least form (map (named_of S.remaining) texts.entry.items) outcome)
+    ensures answered { IfOk result (λ outcome. HasAnswer (AnswersEach task.options.ruling_out task.options.reading task.at_least form (map (named_of S.remaining) texts.entry.items) outcome)
         (W.contents writer.old) (W.contents writer.new)) }
     ensures cut_off { IsErrOf result StreamFault.Write
-        → IsCutOffEach task.options.ruling_out task.options.conflicts task.at_least form (map (named_of S.remaining) texts.entry.items)
+        → IsCutOffEach task.options.ruling_out task.options.reading task.at_least form (map (named_of S.remaining) texts.entry.items)
         (W.contents writer.old) (W.contents writer.new) }
     ensures kept { IfErr result (λ fault. fault ≢ StreamFault.Write
         → Keeps (W.contents writer.old) (W.contents writer.new)) }
@@ -299,11 +302,11 @@ where
     // The writer holds the lines or objects after what it held, and they answer the bytes of the texts, in their order.
     ensures answered { IfOk result (λ outcome. (texts : List Named)
         × AreOfFiles (or_input (map (λ f. f.now) files.now)) (I.remaining input) texts
-        × HasAnswer (AnswersEach task.options.ruling_out task.options.conflicts task.at_least form texts outcome) (W.contents writer.old) (W.contents writer.new)) }
+        × HasAnswer (AnswersEach task.options.ruling_out task.options.reading task.at_least form texts outcome) (W.contents writer.old) (W.contents writer.new)) }
     // After `Write` the writer holds a prefix of such a text after what it held.
     ensures cut_off { IsErrOf result StreamFault.Write → (texts : List Named)
         × AreOfFiles (or_input (map (λ f. f.now) files.now)) (I.remaining input) texts
-        × IsCutOffEach task.options.ruling_out task.options.conflicts task.at_least form texts (W.contents writer.old) (W.contents writer.new) }
+        × IsCutOffEach task.options.ruling_out task.options.reading task.at_least form texts (W.contents writer.old) (W.contents writer.new) }
     // After any other error the writer holds what it held.
     ensures kept { IfErr result (λ fault. fault ≢ StreamFault.Write
         → Keeps (W.contents writer.old) (W.contents writer.new)) }

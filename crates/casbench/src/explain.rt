@@ -51,7 +51,7 @@ fn explained<F: Clock, T: Threads + Wait + Sync, R: Read>(
 ) -> Result<(AnswerText, Option<Vec<u8>>), StreamFault>
     requires workers { AreWorkers options.workers }
     ensures explained { IfOk result (λ made. ExplainsInForm form name.now
-        options.ruling_out options.conflicts (R.remaining history.old) made.0.status made.0.text.items) }
+        options.ruling_out options.reading (R.remaining history.old) made.0.status made.0.text.items) }
     ensures reported { IfErr result IsCheckFault }
 {
     match form {
@@ -114,9 +114,9 @@ fn explain<F: Files + Eprint + Clock, T: Threads + Wait + Sync, R: Read, W: Writ
 ) -> Result<Status, StreamFault>
     requires workers { AreWorkers task.options.workers }
     ensures explained { IfOk result (λ status. HasAnswer (ExplainsInForm task.entry.form name.now
-        task.entry.options.ruling_out task.entry.options.conflicts (R.remaining history.old) status) (W.contents writer.old) (W.contents writer.new)) }
+        task.entry.options.ruling_out task.entry.options.reading (R.remaining history.old) status) (W.contents writer.old) (W.contents writer.new)) }
     ensures cut_off { IsErrOf result StreamFault.Write
-        → HasPrefix (ExplainsInForm task.entry.form name.now task.entry.options.ruling_out task.entry.options.conflicts
+        → HasPrefix (ExplainsInForm task.entry.form name.now task.entry.options.ruling_out task.entry.options.reading
         (R.remaining history.old)) (W.contents writer.old) (W.contents writer.new)
         ⊎ Keeps (W.contents writer.old) (W.contents writer.new) }
     ensures kept { IfErr result (λ fault. fault ≢ StreamFault.Write
@@ -164,10 +164,10 @@ pub fn explain_file<F: Files + Eprint + Clock, T: Threads + Wait + Sync, I: Read
     // If no file is named, or `-`, the writer holds what is written of the input, after what it held.
     ensures explained { names_input (option_map (λ t. t.now) file.entry) ≡ true
         → IfOk result (IsAnswerWith (λ status. HasAnswer (ExplainsInForm task.entry.form (name_of (option_map (λ t. t.now) file.entry))
-        task.entry.options.ruling_out task.entry.options.conflicts (I.remaining input) status) (W.contents writer.old) (W.contents writer.new))) }
+        task.entry.options.ruling_out task.entry.options.reading (I.remaining input) status) (W.contents writer.old) (W.contents writer.new))) }
     // After `Write` it then holds a prefix of that, or no more than it held, since a page can fail before.
     ensures cut_off { IsErrOf result StreamFault.Write → names_input (option_map (λ t. t.now) file.entry) ≡ true
-        → HasPrefix (ExplainsInForm task.entry.form (name_of (option_map (λ t. t.now) file.entry)) task.entry.options.ruling_out task.entry.options.conflicts
+        → HasPrefix (ExplainsInForm task.entry.form (name_of (option_map (λ t. t.now) file.entry)) task.entry.options.ruling_out task.entry.options.reading
         (I.remaining input)) (W.contents writer.old) (W.contents writer.new)
         ⊎ Keeps (W.contents writer.old) (W.contents writer.new) }
     // After any other error it holds what it held.

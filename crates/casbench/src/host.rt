@@ -19,7 +19,7 @@ pub struct Host<'a, R, T> {
 /// How texts are checked.
 #[derive(Clone, Copy)]
 pub struct CheckTask {
-    /// Workers, the reading of conflicts, and whether documents are ruled out.
+    /// Workers, the reading, and whether documents are ruled out.
     pub options: CheckOptions,
     /// How many calls a yes must at least be about.
     pub at_least: u64,
@@ -28,7 +28,7 @@ pub struct CheckTask {
 /// How a history is checked and explained.
 #[derive(Clone, Copy)]
 pub struct ExplainTask<'a> {
-    /// Workers, the reading of conflicts, and whether documents are ruled out.
+    /// Workers, the reading, and whether documents are ruled out.
     pub options: CheckOptions,
     /// Whether the answer is a line or an object.
     pub form: Form,

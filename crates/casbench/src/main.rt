@@ -15,6 +15,7 @@ mod explain;
 mod files;
 mod host;
 mod line_again;
+mod named_reading;
 mod named_text;
 mod notes;
 mod objects;

@@ -16,7 +16,7 @@ use crate::verify::verify_files;
 use crate::witness_file::witness_file;
 use command_line::Request;
 use disturbances::DisturbedGroup;
-use doc_register::Conflicts;
+use readings::Reading;
 use recorded_runs::run_played_stream;
 use report::{CheckOptions, RulingOut, StreamFault};
 use seed_search::search_stream;
@@ -29,14 +29,14 @@ use workload::Target;
 
 // Returns the options of a check. The number of workers is the nearest one from 1 to 16 if it is another,
 // which no arguments give.
-fn options_of(workers: u64, conflicts: Conflicts, ruling_out: RulingOut) -> CheckOptions
+fn options_of(workers: u64, reading: Reading, ruling_out: RulingOut) -> CheckOptions
     ensures workers { AreWorkers result.workers }
-    ensures conflicts { result.conflicts ≡ conflicts }
+    ensures reading { result.reading ≡ reading }
     ensures ruling_out { result.ruling_out ≡ ruling_out }
 {
     CheckOptions {
         workers: workers.clamp(1, 16) as usize,
-        conflicts,
+        reading,
         ruling_out,
     }
 }
@@ -76,13 +76,13 @@ where
     match *request {
         Request::Check {
             file,
-            conflicts,
+            reading,
             workers,
             ruling_out,
             at_least,
         } => {
             let task = CheckTask {
-                options: options_of(workers, conflicts, ruling_out),
+                options: options_of(workers, reading, ruling_out),
                 at_least,
             };
             check_file(host, file, input, writer, task, line)
@@ -90,13 +90,13 @@ where
         Request::CheckEach {
             ref files,
             form,
-            conflicts,
+            reading,
             workers,
             ruling_out,
             at_least,
         } => {
             let task = CheckTask {
-                options: options_of(workers, conflicts, ruling_out),
+                options: options_of(workers, reading, ruling_out),
                 at_least,
             };
             check_files(host, files, input, writer, task, form, line)
@@ -104,15 +104,15 @@ where
         Request::Witness {
             file,
             form,
-            conflicts,
+            reading,
             ruling_out,
-        } => { witness_file(host, file, input, writer, form, conflicts, ruling_out) }
+        } => { witness_file(host, file, input, writer, form, reading, ruling_out) }
         Request::Verify {
             history,
             witness,
             form,
-            conflicts,
-        } => { verify_files(host, history, witness, input, writer, form, conflicts) }
+            reading,
+        } => { verify_files(host, history, witness, input, writer, form, reading) }
         Request::Bulk { body, reply, first } => {
             bulk_files(host.rt, host.alloc, body, reply, first, input, writer)
         }
@@ -136,13 +136,13 @@ where
         Request::Explain {
             file,
             form,
-            conflicts,
+            reading,
             workers,
             ruling_out,
             page,
         } => {
             let task = ExplainTask {
-                options: options_of(workers, conflicts, ruling_out),
+                options: options_of(workers, reading, ruling_out),
                 form,
                 page,
             };

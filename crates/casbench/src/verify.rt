@@ -9,7 +9,7 @@ use crate::host::Host;
 use crate::objects::verify_in_json;
 use crate::outcome::Outcome;
 use command_line::Form;
-use doc_register::Conflicts;
+use readings::Reading;
 use report::{Status, StreamFault, verify_stream};
 use std::io::{Read, Write};
 use std::rt::Files;
@@ -27,14 +27,14 @@ pub fn verify_texts<C: Clock, T, R: Read, Q: Read, W: Write>(
     witness: &mut Q,
     writer: &mut W,
     form: Form,
-    conflicts: Conflicts,
+    reading: Reading,
 ) -> Result<Status, StreamFault>
     // The writer holds, after what it held, what is written of these texts.
-    ensures answered { IfOk result (λ status. HasAnswer (VerifiesInForm form name.now conflicts (R.remaining history.old) (Q.remaining witness.old) status)
+    ensures answered { IfOk result (λ status. HasAnswer (VerifiesInForm form name.now reading (R.remaining history.old) (Q.remaining witness.old) status)
         (W.contents writer.old) (W.contents writer.new)) }
     // After `Write` it then holds a prefix of that.
     ensures cut_off { IsErrOf result StreamFault.Write
-        → HasPrefix (VerifiesInForm form name.now conflicts (R.remaining history.old) (Q.remaining witness.old))
+        → HasPrefix (VerifiesInForm form name.now reading (R.remaining history.old) (Q.remaining witness.old))
         (W.contents writer.old) (W.contents writer.new) }
     // After any other error it holds what it held.
     ensures kept { IfErr result (λ fault. fault ≢ StreamFault.Write
@@ -43,17 +43,9 @@ pub fn verify_texts<C: Clock, T, R: Read, Q: Read, W: Write>(
     ensures reported { IfErr result IsStreamFault }
 {
     match form {
-        Form::Lines => { verify_stream(host.alloc, host.keys, history, witness, writer, conflicts) }
+        Form::Lines => { verify_stream(host.alloc, host.keys, history, witness, writer, reading) }
         Form::Objects => {
-            verify_in_json(
-                host,
-                name,
-                witness_name,
-                history,
-                witness,
-                writer,
-                conflicts,
-            )
+            verify_in_json(host, name, witness_name, history, witness, writer, reading)
         }
     }
 }
@@ -69,7 +61,7 @@ pub fn verify_files<R: Files + Eprint + Clock, T, I: Read + Drop, W: Write>(
     input: I,
     writer: &mut W,
     form: Form,
-    conflicts: Conflicts,
+    reading: Reading,
 ) -> Result<Outcome, StreamFault>
     // After any error but `Write` the writer holds what it held.
     ensures kept { IfErr result (λ fault. fault ≢ StreamFault.Write
@@ -86,7 +78,7 @@ pub fn verify_files<R: Files + Eprint + Clock, T, I: Read + Drop, W: Write>(
         &mut second,
         writer,
         form,
-        conflicts,
+        reading,
     )?;
     Ok(Outcome::Answered(status))
 }

@@ -1,5 +1,5 @@
 -- What the arguments of the command line ask for. `Request` is what the code made of them.
-use Rattle.std.specs.Prelude.{ℕ, ◌==◌, Bool, true, false, List, Option, Some, None, ◌&&◌, ◌^◌, codes, if◌then◌else◌, [], ◌∷◌, length, map, nat_lt, option_and_then, option_map, slice_get, unwrap_or}
+use Rattle.std.specs.Prelude.{ℕ, ◌==◌, Bool, true, false, List, Option, Some, None, ◌&&◌, ◌++◌, ◌^◌, codes, if◌then◌else◌, [], ◌∷◌, length, map, nat_lt, option_and_then, option_map, slice_get, unwrap_or}
 use Rattle.std.specs.Char.{digit_value}
 use Rattle.std.specs.List.{after_first, before_first, list_all, position_or_len}
 use Rattle.std.specs.Str.{bytes_eq}
@@ -8,10 +8,18 @@ use Rattle.clap.specs.Simple.{on_top}
 use Rattle.clap.specs.Words.{App, Kinds, Row, Rule, Text, all_of, first_of, fault_of, new_app, new_rule, subcommand_of, with_rule, with_subcommand}
 use Rattle.clap.specs.declared.builder.action.ArgAction.TheVariants.{Append, SetTrue}
 use Rattle.clap.specs.declared.builder.value_parser.ValueParser.TheVariants as parser
-use Rattle.doc_register.specs.declared.state.Conflicts.{Conflicts}
-use Rattle.doc_register.specs.declared.state.Conflicts.TheVariants.{Plain, Maybe}
 use Rattle.evidence.specs.declared.ruling_out.RulingOut.{RulingOut}
 use Rattle.evidence.specs.declared.ruling_out.RulingOut.TheVariants.{Off, On}
+use Rattle.history.specs.declared.text_rules.Failed.{Failed}
+use Rattle.history.specs.declared.text_rules.Failed.TheVariants as failed
+use Rattle.history.specs.declared.text_rules.Writes.{Writes}
+use Rattle.history.specs.declared.text_rules.Writes.TheVariants as writes
+use Rattle.readings.specs.declared.reading.ConflictReading.{ConflictReading}
+use Rattle.readings.specs.declared.reading.ConflictReading.TheVariants as conflict
+use Rattle.readings.specs.declared.reading.Gets.{Gets}
+use Rattle.readings.specs.declared.reading.Gets.TheVariants as gets
+use Rattle.readings.specs.declared.reading.Reading.{Reading}
+use Rattle.readings.specs.Reading.{opensearch_reading, strict_reading}
 use Rattle.repl_group.specs.declared.fault.Fault.{Fault}
 use Rattle.repl_group.specs.declared.fault.Fault.TheVariants as fault
 use Rattle.disturbances.specs.declared.disturbance.Disturbance.{Disturbance}
@@ -25,6 +33,8 @@ use Rattle.command_line.specs.declared.form.Form.{Form}
 use Rattle.command_line.specs.declared.form.Form.TheVariants.{Lines, Objects}
 use Rattle.command_line.specs.declared.page_request.Drawn.{Drawn}
 use Rattle.command_line.specs.declared.page_request.PageRequest.{PageRequest}
+use Rattle.command_line.specs.declared.profile.Profile.{Profile}
+use Rattle.command_line.specs.declared.profile.Profile.TheVariants.{Strict, OpenSearch}
 use Rattle.command_line.specs.declared.request.Request.{Request}
 use Rattle.command_line.specs.declared.request.Request.TheVariants as request
 
@@ -43,16 +53,15 @@ pub record AskedPage : Type 0 where
 -- What is asked for.
 -- Source: profile.
 pub data Asked : Type 0 where
-  -- a check of a history, in the named file or in standard input, with a reading of conflicts, a number of
-  -- workers, whether documents are checked for being ruled out, and the least number of calls that is asked
-  -- for
-  ToCheck : Option Text → Conflicts → ℕ → RulingOut → ℕ → Asked
+  -- a check of a history, in the named file or in standard input, with a reading, a number of workers, whether
+  -- documents are checked for being ruled out, and the least number of calls that is asked for
+  ToCheck : Option Text → Reading → ℕ → RulingOut → ℕ → Asked
   -- the same of each of some files, in this order, or of standard input if there is none, answered in a form
-  ToCheckEach : List Text → Form → Conflicts → ℕ → RulingOut → ℕ → Asked
+  ToCheckEach : List Text → Form → Reading → ℕ → RulingOut → ℕ → Asked
   -- a witness of a history, in the same way, without workers; or why there is none, in a form
-  ToWitness : Option Text → Form → Conflicts → RulingOut → Asked
-  -- a check of a witness against a history, of two files, answered in a form, with a reading of conflicts
-  ToVerify : Text → Text → Form → Conflicts → Asked
+  ToWitness : Option Text → Form → Reading → RulingOut → Asked
+  -- a check of a witness against a history, of two files, answered in a form, with a reading
+  ToVerify : Text → Text → Form → Reading → Asked
   -- the lines of a bulk's body and its reply, of two files, the calls numbered from a number on
   ToWriteBulk : Text → Text → ℕ → Asked
   -- a run with a setting, in a manner
@@ -62,7 +71,7 @@ pub data Asked : Type 0 where
   ToSearch : ℕ → ℕ → RunSetting → Disturbance → Asked
   -- a check that is explained, in a form, with what a check has but the least number of calls, and with a page or
   -- none
-  ToExplain : Option Text → Form → Conflicts → ℕ → RulingOut → Option AskedPage → Asked
+  ToExplain : Option Text → Form → Reading → ℕ → RulingOut → Option AskedPage → Asked
 
 -- the document that is drawn, as the code has it
 abbrev pub drawing_asked : Drawn → AskedDrawing
@@ -74,22 +83,82 @@ page_asked page = record { path = page.path.now; drawn = option_map drawing_aske
 
 -- the same as the code has it
 abbrev pub asked_by : Request → Asked
-asked_by (request.Check file conflicts workers ruling at_least) = ToCheck (option_map (λ f. f.now) file) conflicts workers ruling at_least
-asked_by (request.CheckEach files form conflicts workers ruling at_least) = ToCheckEach (map (λ f. f.now) files.items) form conflicts workers ruling at_least
-asked_by (request.Witness file form conflicts ruling) = ToWitness (option_map (λ f. f.now) file) form conflicts ruling
-asked_by (request.Verify history witness form conflicts) = ToVerify history.now witness.now form conflicts
+asked_by (request.Check file reading workers ruling at_least) = ToCheck (option_map (λ f. f.now) file) reading workers ruling at_least
+asked_by (request.CheckEach files form reading workers ruling at_least) = ToCheckEach (map (λ f. f.now) files.items) form reading workers ruling at_least
+asked_by (request.Witness file form reading ruling) = ToWitness (option_map (λ f. f.now) file) form reading ruling
+asked_by (request.Verify history witness form reading) = ToVerify history.now witness.now form reading
 asked_by (request.Bulk body reply first) = ToWriteBulk body.now reply.now first
 asked_by (request.Run setting manner) = ToRun setting manner
 asked_by (request.Search seeds setting disturbance) = ToSearch seeds.first seeds.last setting disturbance
-asked_by (request.Explain file form conflicts workers ruling page) = ToExplain (option_map (λ f. f.now) file) form conflicts workers ruling (option_map page_asked page)
+asked_by (request.Explain file form reading workers ruling page) = ToExplain (option_map (λ f. f.now) file) form reading workers ruling (option_map page_asked page)
 
--- the reading of conflicts of this name, `plain` or `maybe`; the plain one if no name is given; nothing of
+-- the profile of this name: `strict`, which it is if no name is given, or `opensearch`; nothing of another name
+-- Source: profile.
+abbrev pub profile_named : Option Text → Option Profile
+profile_named None = Some Strict
+profile_named (Some name) =
+    if bytes_eq name (codes "strict") then Some Strict
+    else (if bytes_eq name (codes "opensearch") then Some OpenSearch else None)
+
+-- the profile that arguments ask for
+abbrev pub profile_of : List Row → Option Profile
+profile_of rows = profile_named (first_of (codes "profile") rows)
+
+-- the reading of a profile
+abbrev pub profile_reading : Profile → Reading
+profile_reading Strict = strict_reading
+profile_reading OpenSearch = opensearch_reading
+
+-- what a reply to a get shows, by this name: `last` or `any`; the usual if no name is given; nothing of another
+-- name
+-- Source: profile.
+abbrev pub gets_named : Gets → Option Text → Option Gets
+gets_named usual None = Some usual
+gets_named usual (Some name) =
+    if bytes_eq name (codes "last") then Some gets.Last
+    else (if bytes_eq name (codes "any") then Some gets.Any else None)
+
+-- what a conflict shows, by this name: `plain`, `maybe` or `unknown`; the usual if no name is given; nothing of
 -- another name
 -- Source: profile.
-abbrev pub conflicts_named : Option Text → Option Conflicts
-conflicts_named None = Some Plain
-conflicts_named (Some name) =
-    if bytes_eq name (codes "plain") then Some Plain else (if bytes_eq name (codes "maybe") then Some Maybe else None)
+abbrev pub conflicts_named : ConflictReading → Option Text → Option ConflictReading
+conflicts_named usual None = Some usual
+conflicts_named usual (Some name) =
+    if bytes_eq name (codes "plain") then Some conflict.Plain
+    else (if bytes_eq name (codes "maybe") then Some conflict.Maybe
+    else (if bytes_eq name (codes "unknown") then Some conflict.Unknown else None))
+
+-- how often a write is performed, by this name: `once` or `repeated`; the usual if no name is given; nothing of
+-- another name
+-- Source: profile.
+abbrev pub writes_named : Writes → Option Text → Option Writes
+writes_named usual None = Some usual
+writes_named usual (Some name) =
+    if bytes_eq name (codes "once") then Some writes.Once
+    else (if bytes_eq name (codes "repeated") then Some writes.Repeated else None)
+
+-- what a lost line says that is marked as void, by this name: `lost` or `trusted`; the usual if no name is given;
+-- nothing of another name
+-- Source: profile.
+abbrev pub failed_named : Failed → Option Text → Option Failed
+failed_named usual None = Some usual
+failed_named usual (Some name) =
+    if bytes_eq name (codes "lost") then Some failed.Lost
+    else (if bytes_eq name (codes "trusted") then Some failed.Trusted else None)
+
+-- the usual reading, but for what arguments name of it; nothing if one of the names is unknown
+-- Source: profile.
+abbrev pub reading_with : Reading → List Row → Option Reading
+reading_with usual rows =
+    option_and_then (λ g. option_and_then (λ c. option_and_then (λ w. option_map (λ f. record { gets = g; conflicts = c; writes = w; failed = f })
+    (failed_named usual.failed (first_of (codes "failed") rows))) (writes_named usual.writes (first_of (codes "writes") rows)))
+    (conflicts_named usual.conflicts (first_of (codes "conflicts") rows))) (gets_named usual.gets (first_of (codes "gets") rows))
+
+-- the reading that arguments ask for: that of the profile, but for what is named beside it; nothing if a name is
+-- unknown
+-- Source: profile.
+abbrev pub reading_of : List Row → Option Reading
+reading_of rows = option_and_then (λ profile. reading_with (profile_reading profile) rows) (profile_of rows)
 
 -- a number below 2^64: digits, with or without a plus before them
 -- Source: profile.
@@ -114,9 +183,15 @@ flag_given (Some text) = bytes_eq text (codes "true")
 abbrev pub form_given : Option Text → Form
 form_given text = if flag_given text then Objects else Lines
 
--- On if the option `--rule-out` is given, otherwise Off
-abbrev pub ruling_given : Option Text → RulingOut
-ruling_given text = if flag_given text then On else Off
+-- On under the profile `opensearch`; under the strict one On if the option `--rule-out` is given, otherwise Off
+-- Source: profile.
+abbrev pub ruling_by : Profile → Option Text → RulingOut
+ruling_by OpenSearch text = On
+ruling_by Strict text = if flag_given text then On else Off
+
+-- whether documents are checked for being ruled out, as arguments ask; nothing if the name of the profile is unknown
+abbrev pub ruling_of : List Row → Option RulingOut
+ruling_of rows = option_map (λ profile. ruling_by profile (first_of (codes "rule-out") rows)) (profile_of rows)
 
 -- the texts that the argument of this name was given, in their order
 -- Source: profile.
@@ -126,18 +201,18 @@ texts_of name rows = unwrap_or (all_of name rows) []
 -- a check of the one file, or of standard input, if the form is Lines and there are fewer than two files; else a check of
 -- each of them
 -- Source: profile.
-abbrev pub to_check : Form → List Text → Conflicts → ℕ → RulingOut → ℕ → Asked
-to_check Objects files conflicts workers ruling at_least = ToCheckEach files Objects conflicts workers ruling at_least
-to_check Lines files conflicts workers ruling at_least =
-    if nat_lt (length files) 2 then ToCheck (slice_get files 0) conflicts workers ruling at_least
-    else ToCheckEach files Lines conflicts workers ruling at_least
+abbrev pub to_check : Form → List Text → Reading → ℕ → RulingOut → ℕ → Asked
+to_check Objects files reading workers ruling at_least = ToCheckEach files Objects reading workers ruling at_least
+to_check Lines files reading workers ruling at_least =
+    if nat_lt (length files) 2 then ToCheck (slice_get files 0) reading workers ruling at_least
+    else ToCheckEach files Lines reading workers ruling at_least
 
 -- the check of these files that arguments ask for, by one worker if no number is given, and of 0 calls or
--- more if no least number is; nothing if the name of the reading is unknown, or one of the numbers is none
+-- more if no least number is; nothing if a name of the reading is unknown, or one of the numbers is none
 abbrev pub checked_of : List Text → List Row → Option Asked
 checked_of files rows =
-    option_and_then (λ conflicts. option_and_then (λ n. option_map (λ at_least. to_check (form_given (first_of (codes "json") rows)) files conflicts n (ruling_given (first_of (codes "rule-out") rows)) at_least)
-    (number_or 0 (first_of (codes "at-least") rows))) (number_or 1 (first_of (codes "workers") rows))) (conflicts_named (first_of (codes "conflicts") rows))
+    option_and_then (λ reading. option_and_then (λ n. option_and_then (λ ruling. option_map (λ at_least. to_check (form_given (first_of (codes "json") rows)) files reading n ruling at_least)
+    (number_or 0 (first_of (codes "at-least") rows))) (ruling_of rows)) (number_or 1 (first_of (codes "workers") rows))) (reading_of rows)
 
 -- the check that arguments ask for, of the files that they name
 abbrev pub check_of : List Row → Option Asked
@@ -188,20 +263,19 @@ page_of rows = pages_of (first_of (codes "html") rows) (first_of (codes "documen
 -- the same for a check that is explained, without a least number, and with the page
 abbrev pub explain_of : List Row → Option Asked
 explain_of rows =
-    option_and_then (λ conflicts. option_and_then (λ n. option_map (λ page. ToExplain (first_of (codes "history") rows) (form_given (first_of (codes "json") rows)) conflicts n (ruling_given (first_of (codes "rule-out") rows)) page)
-    (page_of rows)) (number_or 1 (first_of (codes "workers") rows))) (conflicts_named (first_of (codes "conflicts") rows))
+    option_and_then (λ reading. option_and_then (λ n. option_and_then (λ ruling. option_map (λ page. ToExplain (first_of (codes "history") rows) (form_given (first_of (codes "json") rows)) reading n ruling page)
+    (page_of rows)) (ruling_of rows)) (number_or 1 (first_of (codes "workers") rows))) (reading_of rows)
 
--- the witness that arguments ask for; nothing if the name of the reading is unknown
+-- the witness that arguments ask for; nothing if a name of the reading is unknown
 abbrev pub witness_of : List Row → Option Asked
 witness_of rows =
-    option_map (λ conflicts. ToWitness (first_of (codes "history") rows) (form_given (first_of (codes "json") rows)) conflicts (ruling_given (first_of (codes "rule-out") rows)))
-    (conflicts_named (first_of (codes "conflicts") rows))
+    option_and_then (λ reading. option_map (λ ruling. ToWitness (first_of (codes "history") rows) (form_given (first_of (codes "json") rows)) reading ruling) (ruling_of rows)) (reading_of rows)
 
--- the check of a witness that arguments ask for, if both files are named; nothing if the name of the reading
--- is unknown
+-- the check of a witness that arguments ask for, if both files are named; nothing if a name of the reading is
+-- unknown
 abbrev pub verify_of : List Row → Option Asked
 verify_of rows =
-    option_and_then (λ history. option_and_then (λ witness. option_map (λ conflicts. ToVerify history witness (form_given (first_of (codes "json") rows)) conflicts) (conflicts_named (first_of (codes "conflicts") rows)))
+    option_and_then (λ history. option_and_then (λ witness. option_map (λ reading. ToVerify history witness (form_given (first_of (codes "json") rows)) reading) (reading_of rows))
     (first_of (codes "witness") rows)) (first_of (codes "history") rows)
 
 -- the lines of a bulk that arguments ask for, if both files are named; the calls are numbered from 0 if no
@@ -296,10 +370,10 @@ request_of_command name rows =
     else (if bytes_eq name (codes "run") then run_of rows
     else (if bytes_eq name (codes "explain") then explain_of rows else None)))))
 
--- what a command asks for; without a command it is a check of standard input by one worker
+-- what a command asks for; without a command it is a check of standard input by one worker, with the strict reading
 -- Source: profile.
 abbrev pub asked_of : Option (Text × List Row) → Option Asked
-asked_of None = Some (ToCheck None Plain 1 Off 0)
+asked_of None = Some (ToCheck None strict_reading 1 Off 0)
 asked_of (Some command) = request_of_command command.0 command.1
 
 -- ---- the command line
@@ -355,32 +429,39 @@ abbrev pub with_rules : App → List Rule → App
 with_rules command [] = command
 with_rules command (r ∷ rs) = with_rules (with_rule command r) rs
 
--- the command `check`, which takes histories, which may be left out, `--conflicts`, `--workers`, from 1 to 16,
--- `--rule-out`, `--at-least`, below 2^64, and `--json`
+-- the options of a reading: `--profile`, `--gets`, `--conflicts`, `--writes` and `--failed`
+-- Source: profile.
+abbrev pub reading_rules : List Rule
+reading_rules = option_rule (codes "profile") ∷ option_rule (codes "gets") ∷ option_rule (codes "conflicts") ∷ option_rule (codes "writes") ∷ option_rule (codes "failed") ∷ []
+
+-- the command `check`, which takes histories, which may be left out, the options of a reading, `--workers`, from 1
+-- to 16, `--rule-out`, `--at-least`, below 2^64, and `--json`
 -- Source: profile.
 abbrev pub check_command : App
 check_command =
     with_rules (new_app (codes "check"))
-    (files_rule (codes "history") ∷ option_rule (codes "conflicts") ∷ number_rule (codes "workers") 1 16 ∷ switch_rule (codes "rule-out") ∷ number_rule (codes "at-least") 0 18446744073709551615 ∷ switch_rule (codes "json") ∷ [])
+    (files_rule (codes "history") ∷ reading_rules
+    ++ (number_rule (codes "workers") 1 16 ∷ switch_rule (codes "rule-out") ∷ number_rule (codes "at-least") 0 18446744073709551615 ∷ switch_rule (codes "json") ∷ []))
 
--- the command `explain`, which takes a history, which may be left out, `--conflicts`, `--workers`, from 1 to 16,
--- `--rule-out`, the options of a page, which are `--html`, `--document` and `--lines`, and `--json`
+-- the command `explain`, which takes a history, which may be left out, the options of a reading, `--workers`, from 1
+-- to 16, `--rule-out`, the options of a page, which are `--html`, `--document` and `--lines`, and `--json`
 -- Source: profile.
 abbrev pub explain_command : App
 explain_command =
     with_rules (new_app (codes "explain"))
-    (file_rule (codes "history") ∷ option_rule (codes "conflicts") ∷ number_rule (codes "workers") 1 16 ∷ switch_rule (codes "rule-out") ∷ option_rule (codes "html") ∷ option_rule (codes "document")
-    ∷ option_rule (codes "lines") ∷ switch_rule (codes "json") ∷ [])
+    (file_rule (codes "history") ∷ reading_rules
+    ++ (number_rule (codes "workers") 1 16 ∷ switch_rule (codes "rule-out") ∷ option_rule (codes "html") ∷ option_rule (codes "document") ∷ option_rule (codes "lines") ∷ switch_rule (codes "json") ∷ []))
 
--- the command `witness`, which takes a history, which may be left out, `--conflicts`, `--rule-out` and `--json`
+-- the command `witness`, which takes a history, which may be left out, the options of a reading, `--rule-out` and
+-- `--json`
 -- Source: profile.
 abbrev pub witness_command : App
-witness_command = with_rules (new_app (codes "witness")) (file_rule (codes "history") ∷ option_rule (codes "conflicts") ∷ switch_rule (codes "rule-out") ∷ switch_rule (codes "json") ∷ [])
+witness_command = with_rules (new_app (codes "witness")) (file_rule (codes "history") ∷ reading_rules ++ (switch_rule (codes "rule-out") ∷ switch_rule (codes "json") ∷ []))
 
--- the command `verify`, which takes a history and a witness, both required, `--conflicts` and `--json`
+-- the command `verify`, which takes a history and a witness, both required, the options of a reading and `--json`
 -- Source: profile.
 abbrev pub verify_command : App
-verify_command = with_rules (new_app (codes "verify")) (needed_rule (codes "history") ∷ needed_rule (codes "witness") ∷ option_rule (codes "conflicts") ∷ switch_rule (codes "json") ∷ [])
+verify_command = with_rules (new_app (codes "verify")) (needed_rule (codes "history") ∷ needed_rule (codes "witness") ∷ reading_rules ++ (switch_rule (codes "json") ∷ []))
 
 -- the command `bulk`, which takes a body and a reply, both required, and `--first`, below 2^64
 -- Source: profile.
@@ -408,10 +489,15 @@ abbrev pub with_commands : App → List App → App
 with_commands program [] = program
 with_commands program (c ∷ cs) = with_commands (with_subcommand program c.top) cs
 
+-- the commands, in the order of the help
+-- Source: profile.
+abbrev pub all_commands : List App
+all_commands = check_command ∷ witness_command ∷ verify_command ∷ bulk_command ∷ run_command ∷ explain_command ∷ []
+
 -- `casbench` with its six commands
 -- Source: profile.
 abbrev pub command_line : App
-command_line = with_commands named_line (check_command ∷ witness_command ∷ verify_command ∷ bulk_command ∷ run_command ∷ explain_command ∷ [])
+command_line = with_commands named_line all_commands
 
 -- what the arguments ask for, the first of which is the program's name
 -- Source: profile.

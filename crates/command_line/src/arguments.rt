@@ -68,11 +68,43 @@ pub const FIRST: Argument<'static> = Argument {
     takes: ANY_NUMBER,
 };
 
+/// What the store promises, as a whole.
+pub const PROFILE: Argument<'static> = Argument {
+    id: "profile",
+    shown: "NAME",
+    help: "What the store promises: strict (linearizable reads, writes performed once) or opensearch (as its documentation says); strict by default",
+    takes: Takes::Text,
+};
+
+/// What a reply to a get shows.
+pub const GETS: Argument<'static> = Argument {
+    id: "gets",
+    shown: "READING",
+    help: "What a get shows: last (the last change) or any (what any copy had); the profile's by default",
+    takes: Takes::Text,
+};
+
 /// How a conflict is read.
 pub const CONFLICTS: Argument<'static> = Argument {
     id: "conflicts",
     shown: "READING",
-    help: "How a conflict is read: plain (not performed) or maybe (possibly performed); plain by default",
+    help: "How a conflict is read: plain (not performed), maybe (possibly performed) or unknown (it shows nothing); the profile's by default",
+    takes: Takes::Text,
+};
+
+/// How often a write is performed.
+pub const WRITES: Argument<'static> = Argument {
+    id: "writes",
+    shown: "READING",
+    help: "How often a write is performed: once or repeated (maybe twice, without a condition); the profile's by default",
+    takes: Takes::Text,
+};
+
+/// How a lost line that is marked as void is read.
+pub const FAILED: Argument<'static> = Argument {
+    id: "failed",
+    shown: "READING",
+    help: "How a lost call marked as void is read: lost (possibly performed) or trusted (not performed); the profile's by default",
     takes: Takes::Text,
 };
 
@@ -88,7 +120,7 @@ pub const WORKERS: Argument<'static> = Argument {
 pub const RULE_OUT: Argument<'static> = Argument {
     id: "rule-out",
     shown: "",
-    help: "If no order is found, look for a document that no order explains, whatever became of lost calls",
+    help: "If no order is found, look for a document that no order explains, whatever became of lost calls; on with --profile opensearch",
     takes: Takes::Nothing,
 };
 

@@ -7,9 +7,9 @@ ghost use Rattle.command_line.specs.aids.Rules.{command_by};
 use crate::argument::Argument;
 use crate::arguments;
 use crate::arguments::{
-    AT_LEAST, BODY, CALLS, CLIENTS, CONFLICTS, COPIES, DISTURB, DOCS, DOCUMENT, FAULT, FIRST,
-    HISTORIES, HISTORY, HTML, IN_TURNS, JSON, LINES, NEEDED_HISTORY, REPLY, RULE_OUT, SEED, SEEDS,
-    UNTIL, WORKERS,
+    AT_LEAST, BODY, CALLS, CLIENTS, CONFLICTS, COPIES, DISTURB, DOCS, DOCUMENT, FAILED, FAULT,
+    FIRST, GETS, HISTORIES, HISTORY, HTML, IN_TURNS, JSON, LINES, NEEDED_HISTORY, PROFILE, REPLY,
+    RULE_OUT, SEED, SEEDS, UNTIL, WORKERS, WRITES,
 };
 use clap::{Arg, Command};
 use std::alloc::{AllocError, Global};
@@ -54,20 +54,33 @@ const USAGES: &[Usage<'static>] = &[
     Usage {
         name: CHECK,
         about: "Check histories; casbench without a command checks standard input",
-        examples: "Examples:\n  casbench check history.ndjson\n  casbench check monday.ndjson tuesday.ndjson --at-least 1000",
-        arguments: &[HISTORIES, CONFLICTS, WORKERS, RULE_OUT, AT_LEAST, JSON],
+        examples: "Examples:\n  casbench check history.ndjson\n  casbench check carts.ndjson --profile opensearch\n  casbench check monday.ndjson tuesday.ndjson --at-least 1000",
+        arguments: &[
+            HISTORIES, PROFILE, GETS, CONFLICTS, WRITES, FAILED, WORKERS, RULE_OUT, AT_LEAST, JSON,
+        ],
     },
     Usage {
         name: WITNESS,
         about: "Write the witness of a history",
         examples: "Example:\n  casbench witness history.ndjson > history.witness",
-        arguments: &[HISTORY, CONFLICTS, RULE_OUT, JSON],
+        arguments: &[
+            HISTORY, PROFILE, GETS, CONFLICTS, WRITES, FAILED, RULE_OUT, JSON,
+        ],
     },
     Usage {
         name: VERIFY,
         about: "Check a witness against a history",
         examples: "Example:\n  casbench verify history.ndjson history.witness",
-        arguments: &[NEEDED_HISTORY, arguments::WITNESS, CONFLICTS, JSON],
+        arguments: &[
+            NEEDED_HISTORY,
+            arguments::WITNESS,
+            PROFILE,
+            GETS,
+            CONFLICTS,
+            WRITES,
+            FAILED,
+            JSON,
+        ],
     },
     Usage {
         name: BULK,
@@ -88,7 +101,8 @@ const USAGES: &[Usage<'static>] = &[
         about: "Check a history and explain the result",
         examples: "Examples:\n  casbench explain history.ndjson --html explanation.html\n  casbench explain history.ndjson --document cart-7 --html timeline.html",
         arguments: &[
-            HISTORY, CONFLICTS, WORKERS, RULE_OUT, HTML, DOCUMENT, LINES, JSON,
+            HISTORY, PROFILE, GETS, CONFLICTS, WRITES, FAILED, WORKERS, RULE_OUT, HTML, DOCUMENT,
+            LINES, JSON,
         ],
     },
 ];
@@ -157,4 +171,16 @@ pub fn program<'a>(alloc: Global) -> Result<Command<'a>, AllocError>
     ensures { IfOk result (λ program. app_of program ≡ command_line) }
 {
     with_commands(alloc, named_program(alloc)?, USAGES)
+}
+
+/// Returns the command of this name as a program of its own, whose usage begins with `casbench` and the name; the
+/// program with its commands if there is no such command.
+pub fn command_alone<'a>(alloc: Global, name: &str) -> Result<Command<'a>, AllocError> {
+    for usage in USAGES {
+        if *usage.name == *name {
+            let called = format!(in alloc; "casbench {name}")?;
+            return usage.to_command(alloc)?.bin_name(called.as_str());
+        }
+    }
+    program(alloc)
 }

@@ -11,6 +11,8 @@ mod commands;
 mod form;
 mod given;
 mod page_request;
+mod profile;
+mod reading_request;
 mod request;
 mod run_request;
 

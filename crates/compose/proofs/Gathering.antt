@@ -1,6 +1,7 @@
 -- The calls of all entries, each with its point in the order of its document.
-use Rattle.std.proofs.Common.{ℕ, zero, suc, ◌≡◌, ◌≢◌, ◌≤◌, inl, inr, List, [], ◌∷◌, ◌++◌, ◌+◌, length, length-append, refl, sym, ap, subst, ◌∙◌, arith, Some, slice_get}
+use Rattle.std.proofs.Common.{ℕ, zero, suc, ◌≡◌, ◌≢◌, ◌≤◌, inl, inr, List, [], ◌∷◌, ◌++◌, ◌+◌, Bool, cond, length, length-append, option_map, refl, sym, ap, subst, ◌∙◌, arith, false, Some, slice_get, unwrap_or}
 use Rattle.std.specs.Cmp.Lexicographic.{bytes_decides}
+use Rattle.std.specs.Prelude.{filter}
 use Rattle.std.proofs.lemmas.List.{append-nil, length-map}
 use Rattle.std.proofs.lemmas.List.Elements.{filter-append}
 use Rattle.version_pair.proofs.SortedLists.{Has}
@@ -8,17 +9,20 @@ use Rattle.doc_register.proofs.RunLemmas.{other_id}
 use Rattle.doc_register.specs.declared.state.Conflicts.{Conflicts}
 use Rattle.events.specs.declared.event.Event.{Event}
 use Rattle.events.specs.Events.{IsHistory, records_of}
+use Rattle.events.specs.Order.{Placed}
+use Rattle.events.specs.declared.record.Rec.{Rec}
 use Rattle.version_pair.proofs.ListLemmas.{none_is_not_some, same_some}
+use Rattle.places.specs.declared.place.Place.{Place}
 use Rattle.places.specs.Laws.{ArePlacedBy, ExplainsDocument}
 use Rattle.places.specs.Places.{AreValid}
 use Rattle.places.specs.Documents.{DocPlaces}
 use Rattle.places.proofs.DocumentLaws.{places_are_orders}
 use Rattle.places.proofs.PlaceLemmas.{placed_length}
 use Rattle.covers.specs.Covers.{IsEntered}
-use Rattle.compose.specs.Laws.{places_in}
+use Rattle.compose.specs.Laws.{names_number, places_in, places_numbered}
 use Rattle.compose.proofs.Filtering.{filter_all, filter_none, in_either}
 use Rattle.compose.proofs.Points.{IsReached, Pointed, call_place, is_of, part, place_before, placed_at, placed_of, pointed, pointed_placed, pointed_rising, reached}
-use Rattle.compose.proofs.Sorting.{IsRising, sort, sort_filter, sort_length, sort_rising, sorted_from}
+use Rattle.compose.proofs.Sorting.{IsRising, one_more_passes, sort, sort_count, sort_filter, sort_length, sort_rising, sorted_from}
 
 -- ---- one entry
 
@@ -51,6 +55,29 @@ own_document : (conflicts : Conflicts) (events : List Event) (e : DocPlaces) (ks
     → k.placed.entry.doc ≡ e.doc
 own_document conflicts events e ks is i k at = (is.explains.calls i k.placed (placed_at ks i k at)).1
 
+-- ---- how many calls have a number that passes a test
+
+-- among placed calls as many as among their places
+placed_numbered : (test : ℕ → Bool) (records : List Rec) (ps : List Place) (qs : List Placed) → ArePlacedBy records ps qs
+    → length (filter (λ q. test q.no) qs) ≡ length (filter (names_number test records) ps)
+placed_numbered test records [] [] placed = refl
+placed_numbered test records [] (q ∷ qs) placed = absurd placed
+placed_numbered test records (p ∷ ps) [] placed = absurd placed
+placed_numbered test records (p ∷ ps) (q ∷ qs) placed =
+    let own : test q.no ≡ names_number test records p =
+    ap test placed.0.number ∙ sym (ap (λ found. unwrap_or (option_map (λ (r : Rec). test r.no) found) false) placed.0.names) in
+    one_more_passes (λ (r : Placed). test r.no) q qs
+    ∙ (ap (λ b. cond b 1 0 + length (filter (λ (r : Placed). test r.no) qs)) own
+    ∙ (ap (λ n. cond (names_number test records p) 1 0 + n) (placed_numbered test records ps qs placed.1)
+    ∙ sym (one_more_passes (names_number test records) p ps)))
+
+-- among calls with their points as many as among the calls
+pub pointed_numbered : (test : ℕ → Bool) (ks : List Pointed) → length (filter (λ p. test p.no) (placed_of ks)) ≡ length (filter (λ k. test k.placed.no) ks)
+pointed_numbered test [] = refl
+pointed_numbered test (k ∷ ks) =
+    one_more_passes (λ (p : Placed). test p.no) k.placed (placed_of ks)
+    ∙ (ap (λ n. cond (test k.placed.no) 1 0 + n) (pointed_numbered test ks) ∙ sym (one_more_passes (λ (l : Pointed). test l.placed.no) k ks))
+
 -- ---- all entries
 
 -- The calls are those of the entries: the part of each entry's document is one of it, and there are no others.
@@ -58,6 +85,7 @@ pub record AreGathered (conflicts : Conflicts) (events : List Event) (entries : 
   pub parts : (i : ℕ) (e : DocPlaces) → slice_get entries i ≡ Some e → IsPartOf conflicts events e (part e.doc ks)
   pub entered : (i : ℕ) (k : Pointed) → slice_get ks i ≡ Some k → IsEntered entries k.placed.entry.doc
   pub count : length ks ≡ places_in entries
+  pub numbered : (test : ℕ → Bool) → length (filter (λ k. test k.placed.no) ks) ≡ places_numbered test events entries
 
 -- no two entries are of one document
 abbrev AreApart : List DocPlaces → Type 0
@@ -74,7 +102,7 @@ not_first e es apart d entered same = let first : 0 ≡ suc entered.0 = apart 0 
 -- the calls of one more entry
 gathered_more : (conflicts : Conflicts) (events : List Event) (e : DocPlaces) (es : List DocPlaces) (ks all : List Pointed) → AreApart (e ∷ es) → IsPartOf conflicts events e ks
     → AreGathered conflicts events es all → AreGathered conflicts events (e ∷ es) (ks ++ all)
-gathered_more conflicts events e es ks all apart is rest = record { parts = parts; entered = entered; count = count } where
+gathered_more conflicts events e es ks all apart is rest = record { parts = parts; entered = entered; count = count; numbered = numbered } where
   first_part : part e.doc (ks ++ all) ≡ ks
   first_part =
       filter-append (is_of e.doc) ks all
@@ -106,13 +134,21 @@ gathered_more conflicts events e es ks all apart is rest = record { parts = part
       let others : length all ≡ places_in es = rest.count in
       omega arith
 
+  numbered : (test : ℕ → Bool) → length (filter (λ k. test k.placed.no) (ks ++ all)) ≡ places_numbered test events (e ∷ es)
+  numbered test =
+      ap length (filter-append (λ (k : Pointed). test k.placed.no) ks all)
+      ∙ (length-append (filter (λ (k : Pointed). test k.placed.no) ks) (filter (λ (k : Pointed). test k.placed.no) all)
+      ∙ (ap (λ n. n + length (filter (λ (k : Pointed). test k.placed.no) all))
+      (sym (pointed_numbered test ks) ∙ placed_numbered test (records_of events e.doc) e.places (placed_of ks) is.placed)
+      ∙ ap (λ n. length (filter (names_number test (records_of events e.doc)) e.places) + n) (rest.numbered test)))
+
 -- the calls of all entries, one entry's after another's
 gather : (conflicts : Conflicts) (events : List Event) (entries : List DocPlaces) → IsHistory events
     → ((i : ℕ) (e : DocPlaces) → slice_get entries i ≡ Some e → AreValid conflicts (records_of events e.doc) e.places) → AreApart entries
     → (ks : List Pointed) × AreGathered conflicts events entries ks
 gather conflicts events [] history valid apart = (
   [],
-  record { parts = λ i e at. absurd (none_is_not_some e at); entered = λ i k at. absurd (none_is_not_some k at); count = refl },
+  record { parts = λ i e at. absurd (none_is_not_some e at); entered = λ i k at. absurd (none_is_not_some k at); count = refl; numbered = λ test. refl },
 )
 gather conflicts events (e ∷ es) history valid apart =
     let own = part_made conflicts events e history (valid 0 e refl) in
@@ -128,6 +164,7 @@ sorted_gathered conflicts events entries ks is = record {
   parts = λ i e at. subst (IsPartOf conflicts events e) (sym (sort_filter (λ k. k.point) (is_of e.doc) ks (is.parts i e at).rising)) (is.parts i e at);
   entered = λ i k at. let from : Has ks k = sorted_from (λ k. k.point) ks i k at in is.entered from.0 k from.1;
   count = sort_length (λ k. k.point) ks ∙ is.count;
+  numbered = λ test. sort_count (λ k. k.point) (λ (k : Pointed). test k.placed.no) ks ∙ is.numbered test;
 }
 
 -- the calls of all entries, by their points

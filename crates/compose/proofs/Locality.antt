@@ -18,7 +18,7 @@ use Rattle.covers.specs.Covers.{AreCover, IsEntered}
 use Rattle.compose.specs.Laws.{CoversExplain, IsOrderOf}
 use Rattle.events.proofs.CalledDocuments.{call_document}
 use Rattle.compose.proofs.Filtering.{rank, rank_at, rank_once}
-use Rattle.compose.proofs.Gathering.{AreGathered, gathered}
+use Rattle.compose.proofs.Gathering.{AreGathered, gathered, pointed_numbered}
 use Rattle.compose.proofs.Points.{Pointed, call_place, called_there, in_order, is_of, part, part_placed, placed_at, placed_of, pointed_at}
 use Rattle.compose.proofs.Sorting.{IsRising, rising_at}
 use Rattle.compose.proofs.Standing.{listed, passes}
@@ -121,6 +121,7 @@ order_of conflicts events entries ks all = record {
   placed = λ i e at. subst (ArePlacedBy (records_of events e.doc) e.places) (sym (part_placed e.doc ks)) (all.parts i e at).placed;
   entered = λ i p at. let k = pointed_at ks i p at in subst (λ u. IsEntered entries u.entry.doc) k.2 (all.entered i k.0 k.1);
   count = length-map ks (λ k. k.placed) ∙ all.count;
+  numbered = λ test. pointed_numbered test ks ∙ all.numbered test;
 }
 
 -- entries that cover a history make it linearizable, by an order of exactly their places

@@ -1,5 +1,5 @@
 -- Sorting by a key, one element at a time: it keeps each part of the list in whose order the keys never fall.
-use Rattle.std.proofs.Common.{ℕ, zero, suc, ◌≡◌, ◌<◌, ◌≤◌, ◌⊎◌, inl, inr, List, [], ◌∷◌, length, refl, sym, ap, subst, ◌∙◌, arith, Bool, true, false, cond, Some, slice_get}
+use Rattle.std.proofs.Common.{ℕ, zero, suc, ◌≡◌, ◌+◌, ◌<◌, ◌≤◌, ◌⊎◌, inl, inr, List, [], ◌∷◌, length, refl, sym, ap, subst, ◌∙◌, arith, Bool, true, false, cond, Some, slice_get}
 use Rattle.std.specs.Prelude.{filter}
 use Rattle.std.proofs.lemmas.Bool.{cases_lt}
 use Rattle.version_pair.proofs.SortedLists.{Has}
@@ -45,6 +45,31 @@ pub sort_length : {X : Type 0} (key : X → ℕ) (xs : List X) → length (sort 
 unfolding sort
 sort_length key [] = refl
 sort_length key (x ∷ xs) = insert_length key x (sort key xs) ∙ ap suc (sort_length key xs)
+
+-- one more element is counted if it passes the test
+pub one_more_passes : {X : Type 0} (test : X → Bool) (x : X) (xs : List X) → length (filter test (x ∷ xs)) ≡ cond (test x) 1 0 + length (filter test xs)
+one_more_passes {X} test x xs = by_test (test x) where
+  by_test : (b : Bool) → length (cond b (x ∷ filter test xs) (filter test xs)) ≡ cond b 1 0 + length (filter test xs)
+  by_test true = omega arith
+  by_test false = omega arith
+
+insert_count : {X : Type 0} (key : X → ℕ) (test : X → Bool) (x : X) (zs : List X) → length (filter test (insert key x zs)) ≡ cond (test x) 1 0 + length (filter test zs)
+insert_count key test x [] = one_more_passes test x []
+insert_count {X} key test x (z ∷ zs) = by_case (cases_lt (key z) (key x)) (insert_count key test x zs) where
+  by_case : (c : (key z < key x) ⊎ (key x ≤ key z)) → length (filter test (insert key x zs)) ≡ cond (test x) 1 0 + length (filter test zs)
+      → length (filter test (put x z zs (insert key x zs) c)) ≡ cond (test x) 1 0 + length (filter test (z ∷ zs))
+  by_case (inl below) later =
+      let first = one_more_passes test z (insert key x zs) in
+      let second = one_more_passes test z zs in
+      omega (arith, first, second, later)
+  by_case (inr not) later = one_more_passes test x (z ∷ zs)
+
+-- as many elements pass a test
+pub sort_count : {X : Type 0} (key : X → ℕ) (test : X → Bool) (xs : List X) → length (filter test (sort key xs)) ≡ length (filter test xs)
+unfolding sort
+sort_count key test [] = refl
+sort_count key test (x ∷ xs) =
+    insert_count key test x (sort key xs) ∙ (ap (λ n. cond (test x) 1 0 + n) (sort_count key test xs) ∙ sym (one_more_passes test x xs))
 
 -- what stands in the list with x is x, or stood there before
 inserted : {X : Type 0} (key : X → ℕ) (x : X) (zs : List X) (i : ℕ) (y : X) → slice_get (insert key x zs) i ≡ Some y → (x ≡ y) ⊎ Has zs y

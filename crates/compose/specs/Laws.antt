@@ -1,5 +1,5 @@
 -- Laws of covers: what they say of one order of all calls, and what such an order says of covers.
-use Rattle.std.specs.Prelude.{◌≡◌, ◌≢◌, ◌+◌, ℕ, List, [], ◌∷◌, Bool, true, false, Option, Some, None, length, filter, slice_get}
+use Rattle.std.specs.Prelude.{◌≡◌, ◌≢◌, ◌+◌, ℕ, List, [], ◌∷◌, Bool, true, false, Option, Some, None, length, filter, option_map, slice_get, unwrap_or}
 use Rattle.version_pair.specs.declared.pair.Pair.{Pair}
 use Rattle.doc_register.specs.declared.op.Op.{Op}
 use Rattle.doc_register.specs.declared.op.Op.TheVariants.{Get}
@@ -11,7 +11,9 @@ use Rattle.doc_register.specs.Run.{pair_taken}
 use Rattle.events.specs.declared.event.Event.{Event}
 use Rattle.events.specs.Events.{IsCallAt, IsHistory, IsReplyAt, heard_of, is_same, records_of}
 use Rattle.events.specs.Order.{Explains, IsLinearizable, IsLegalInResponseOrder, Placed}
+use Rattle.events.specs.declared.record.Rec.{Rec}
 use Rattle.places.specs.Laws.{ArePlacedBy}
+use Rattle.places.specs.declared.place.Place.{Place}
 use Rattle.places.specs.Documents.{DocPlaces}
 use Rattle.covers.specs.Covers.{AreAllUnpaired, AreCover, HasNoUnpairedCover, IsEntered}
 use Rattle.compose.specs.VerifyFaults.{IsFirstVerifyFault}
@@ -28,6 +30,15 @@ abbrev pub places_in : List DocPlaces → ℕ
 places_in [] = 0
 places_in (e ∷ es) = length e.places + places_in es
 
+-- whether the place names a call with a number that passes the test
+abbrev pub names_number : (ℕ → Bool) → List Rec → Place → Bool
+names_number test records p = unwrap_or (option_map (λ r. test r.no) (slice_get records p.rec)) false
+
+-- the number of places of the entries that name such calls
+abbrev pub places_numbered : (ℕ → Bool) → List Event → List DocPlaces → ℕ
+places_numbered test events [] = 0
+places_numbered test events (e ∷ es) = length (filter (names_number test (records_of events e.doc)) e.places) + places_numbered test events es
+
 -- The order has exactly the places of the entries.
 pub record IsOrderOf (events : List Event) (entries : List DocPlaces) (order : List Placed) : Type 0 where
   -- the calls of each entry's document are in it as the entry's places say
@@ -37,6 +48,8 @@ pub record IsOrderOf (events : List Event) (entries : List DocPlaces) (order : L
   pub entered : (i : ℕ) (p : Placed) → slice_get order i ≡ Some p → IsEntered entries p.entry.doc
   -- it has as many calls as there are places
   pub count : length order ≡ places_in entries
+  -- as many of its calls have a number that passes a test as places name such calls
+  pub numbered : (test : ℕ → Bool) → length (filter (λ p. test p.no) order) ≡ places_numbered test events entries
 
 -- entries that cover a history make it linearizable, by an order of exactly their places
 -- Source: Herlihy and Wing, section 3.1, Theorem 1: a history is linearizable if each object's part is. Here

@@ -1,14 +1,15 @@
 -- What a verdict on a history keeps.
-use Rattle.std.specs.Prelude.{◌≡◌, ◌+◌, ◌-◌, ℕ, List, length, map}
+use Rattle.std.specs.Prelude.{◌≡◌, ◌+◌, ◌-◌, ℕ, List, filter, length, map}
 use Rattle.doc_register.specs.declared.state.Conflicts.{Conflicts}
 use Rattle.events.specs.declared.event.Event.{Event}
 use Rattle.events.specs.Events.{documents_of}
 use Rattle.events.specs.Order.{Explains, IsLinearizable, IsLegalInResponseOrder, Placed}
 use Rattle.places.specs.Documents.{DocPlaces, witness_places}
 use Rattle.places.specs.Witness.{Witness}
-use Rattle.compose.specs.Counts.{calls_of}
+use Rattle.compose.specs.Counts.{calls_counted, calls_of, is_counted}
+use Rattle.compose.specs.declared.counts.CallNumbers.{CallNumbers}
 use Rattle.covers.specs.Covers.{HasNoUnpairedCover}
-use Rattle.compose.specs.Laws.{IsComplete, places_in}
+use Rattle.compose.specs.Laws.{IsComplete, places_in, places_numbered}
 
 -- How contracts see a `Proof`: a history with the witnesses of its documents, and how a conflict is read. The
 -- type of the code keeps that the events are a history and that the witnesses cover it (`AreWitnesses`).
@@ -50,6 +51,18 @@ pub record HasOrder (conflicts : Conflicts) (events : List Event) (docs calls le
   pub explains : Explains conflicts events order
   -- that many calls are not in the order
   pub the_rest : length order + left_out ≡ calls
+
+-- Some order explains the history, and of the calls that are counted that many are not in it, as in no place of the
+-- witnesses.
+-- Source: Herlihy and Wing, section 2 (`explains`); profile (the count).
+pub record LeavesOut (which : CallNumbers) (p : Proven) (left_out : ℕ) : Type 0 where
+  pub order : List Placed
+  -- the order explains it in this reading of conflicts
+  pub explains : Explains p.conflicts p.events order
+  -- that many of the calls that are counted are not in the order
+  pub the_rest : length (filter (λ q. is_counted which q.no) order) + left_out ≡ calls_counted which p.events
+  -- that many are in no place
+  pub placed : places_numbered (is_counted which) p.events (map witness_places p.witnesses) + left_out ≡ calls_counted which p.events
 
 -- What a `no` rests on.
 -- Source: profile.

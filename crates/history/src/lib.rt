@@ -24,7 +24,7 @@ mod written_line;
 
 pub use bulk_writer::bulk_text;
 pub use events::{Event, Front, HashKeys, HistFault, History, MOST_EVENTS, Rec, Seen};
-pub use history_input::{read_from, read_text_from};
+pub use history_input::read_text_from;
 pub use reader::{HistoryReader, read};
 pub use text_read::TextRead;
 pub use text_reader::{TextReader, read_text};

@@ -1,5 +1,7 @@
 mod TwinLemmas
 mod ShownLemmas
+mod KeptLemmas
+mod DocumentLemmas
 mod ReadingLaws
 mod JudgedLemmas
 mod PeakLemmas

@@ -17,6 +17,8 @@ use Rattle.readings.specs.Reading.{conflicts_as}
 use Rattle.history.specs.Laws.{AreLost}
 use Rattle.history.specs.ByRules.{is_repeatable, room_of, room_taken}
 use Rattle.readings.specs.Reading.{doubled, heeded, heeded_events, is_among, is_hidden, read_as, shown_events, twin_before, strict_reading, twinned, with_twins, without_hidden, without_void}
+use Rattle.readings.proofs.DocumentLemmas.{read_documents}
+use Rattle.readings.proofs.KeptLemmas.{left_as_they_are}
 use Rattle.readings.proofs.ShownLemmas.{heeded_void, hidden_history, void_history}
 use Rattle.readings.proofs.TwinLemmas.{twins_are_history}
 
@@ -83,27 +85,16 @@ room_read reading voids mode events = subst (λ n. length (twinned mode (shown_e
   by_mode writes.Once = room_once (without_void (heeded reading.failed voids)) (without_hidden reading) events
   by_mode writes.Repeated = room_repeated reading (heeded reading.failed voids) (shown_events reading voids events) 0 events
 
--- ---- the strict reading
-
--- no reply is hidden
-strict_stays : (voids : List ℕ) (events : List Event) → read_as strict_reading voids events ≡ events
-strict_stays voids [] = refl
-strict_stays voids (Call h n d op ∷ es) = ap (λ rest. Call h n d op ∷ rest) (strict_stays voids es)
-strict_stays voids (Reply n (Indexed q created) ∷ es) = ap (λ rest. Reply n (Indexed q created) ∷ rest) (strict_stays voids es)
-strict_stays voids (Reply n (Deleted q found) ∷ es) = ap (λ rest. Reply n (Deleted q found) ∷ rest) (strict_stays voids es)
-strict_stays voids (Reply n (Found p k) ∷ es) = ap (λ rest. Reply n (Found p k) ∷ rest) (strict_stays voids es)
-strict_stays voids (Reply n Missing ∷ es) = ap (λ rest. Reply n Missing ∷ rest) (strict_stays voids es)
-strict_stays voids (Reply n Conflict ∷ es) = ap (λ rest. Reply n Conflict ∷ rest) (strict_stays voids es)
-strict_stays voids (Lost n ∷ es) = ap (λ rest. Lost n ∷ rest) (strict_stays voids es)
-
 -- ---- the laws
 
 pub readings_keep_histories : ReadingsKeepHistories
 readings_keep_histories = record {
   history = read_history;
   heeded = heeded_history;
+  documents = read_documents;
   room = λ reading voids events. room_read reading voids reading.writes events;
-  strict = strict_stays;
+  left = left_as_they_are;
+  strict = refl;
 }
 
 pub evidence_refutes_readings : EvidenceRefutesReadings

@@ -1,4 +1,5 @@
 pub mod Reading
 pub mod Gets
 pub mod Laws
+pub mod WayBack
 pub mod aids

@@ -1,6 +1,6 @@
 -- Readings of a history. A reading says what a store promises less than that each reply shows the last change of
 -- its document, and turns the events of a history into those that the strict check judges.
-use Rattle.std.specs.Prelude.{ℕ, suc, ◌+◌, ◌*◌, ◌==◌, Bool, true, false, List, [], ◌∷◌, Some, None, if◌then◌else◌, map, unwrap_or}
+use Rattle.std.specs.Prelude.{ℕ, suc, ◌+◌, ◌*◌, ◌==◌, ◌&&◌, Bool, true, false, List, [], ◌∷◌, Some, None, if◌then◌else◌, map, unwrap_or}
 use Rattle.std.specs.List.{list_any}
 use Rattle.doc_register.specs.declared.op.Op.{Op}
 use Rattle.doc_register.specs.declared.op.Op.TheVariants.{Get}
@@ -19,6 +19,7 @@ use Rattle.history.specs.declared.text_rules.Failed.TheVariants as failed
 use Rattle.readings.specs.declared.reading.Gets.{Gets}
 use Rattle.readings.specs.declared.reading.Gets.TheVariants as gets
 use Rattle.readings.specs.declared.reading.Reading.{Reading}
+use Rattle.history.specs.declared.text_rules.TextRules.{TextRules}
 use Rattle.history.specs.declared.text_rules.Writes.{Writes}
 use Rattle.history.specs.declared.text_rules.Writes.TheVariants as writes
 
@@ -129,3 +130,32 @@ conflicts_as conflict.Unknown = Maybe
 -- Source: profile.
 abbrev pub strict_reading : Reading
 strict_reading = record { gets = gets.Last; conflicts = conflict.Plain; writes = writes.Once; failed = failed.Lost }
+
+-- The reading of OpenSearch's documentation: any active copy answers a realtime get, a conflict is tested against the
+-- state of the primary alone, and the coordinating node may send a write again.
+-- Source: OpenSearch, get document and optimistic concurrency control.
+abbrev pub opensearch_reading : Reading
+opensearch_reading = record { gets = gets.Any; conflicts = conflict.Unknown; writes = writes.Repeated; failed = failed.Trusted }
+
+-- the rules by which its text is read
+abbrev pub rules_of : Reading → TextRules
+rules_of reading = record { failed = reading.failed; writes = reading.writes }
+
+-- ---- readings that leave each event as it is
+
+-- no reply is read as a lost outcome
+abbrev pub is_shown : Gets → ConflictReading → Bool
+is_shown gets.Last conflict.Plain = true
+is_shown gets.Last conflict.Maybe = true
+is_shown gets.Last conflict.Unknown = false
+is_shown gets.Any read = false
+
+-- no call is void, and none is made twice
+abbrev pub is_alone : Writes → Failed → Bool
+is_alone writes.Once failed.Lost = true
+is_alone writes.Once failed.Trusted = false
+is_alone writes.Repeated said = false
+
+-- the events are read as they are
+abbrev pub leaves_events : Reading → Bool
+leaves_events reading = is_shown reading.gets reading.conflicts && is_alone reading.writes reading.failed

@@ -2,8 +2,8 @@
 
 ghost use Rattle.readings.specs.Laws.{EvidenceRefutesReadings, ReadingsKeepHistories};
 
-/// Shows that what a reading makes of a history is a history, and that it has no more events than the room that
-/// the events take.
+/// Shows that what a reading makes of a history is a history of the same documents, and that it has no more events
+/// than the room that the events take.
 #[tactic(auto, using(crate::proofs::ReadingLaws::readings_keep_histories))]
 pub fn histories_stay()
     ensures { ReadingsKeepHistories }

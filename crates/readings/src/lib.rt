@@ -3,8 +3,8 @@
 //!
 //! ```text
 //! let reading = Reading::opensearch();
-//! let judged = judged_history(&history, &voids, reading)?;
-//! let verdict = check_alone(alloc, judged, reading.conflicts_checked())?;
+//! let read = ReadHistory::of(text_read, reading)?;
+//! let verdict = check_alone(alloc, read.judged, reading.conflicts_checked())?;
 //! ```
 #![tactic(auto)]
 
@@ -12,12 +12,16 @@ mod document;
 mod judged;
 pub mod laws;
 mod peaks;
+mod read_history;
 mod reading;
 mod removers;
 mod sources;
 mod unexplained;
+mod way_back;
 
-pub use history::{Failed, TextRules, Voids, Writes};
+pub use history::{Failed, TextRead, TextRules, Voids, Writes};
 pub use judged::{is_repeatable_write, judged_history};
+pub use read_history::{ReadHistory, text_history};
 pub use reading::{ConflictReading, Gets, Reading};
 pub use unexplained::{UnexplainedGet, unexplained_get};
+pub use way_back::WayBack;

@@ -1,5 +1,5 @@
 ghost use Rattle.std.specs.Prelude.{◌≡◌};
-ghost use Rattle.readings.specs.Reading.{conflicts_as, strict_reading};
+ghost use Rattle.readings.specs.Reading.{conflicts_as, leaves_events, opensearch_reading, rules_of, strict_reading};
 
 use doc_register::Conflicts;
 use history::{Failed, TextRules, Writes};
@@ -55,9 +55,12 @@ impl Reading {
     /// conflict is tested against the state of the primary alone, and the coordinating node sends a write again
     /// after it lost the connection to the primary.
     ///
-    /// Two things that a cluster may do are accused: a write that is sent again twice, and a get from a copy
-    /// that has rolled back, since another one was promoted, and isn't in sync again.
-    pub fn opensearch() -> Reading {
+    /// No order may be found for a write that a cluster performed three times. Two gets that a cluster may answer are
+    /// refuted: one of a primary that is cut off, until it steps down, and one of a copy that has rolled back, since
+    /// another one was promoted, and isn't in sync again.
+    pub fn opensearch() -> Reading
+        ensures { result ≡ opensearch_reading }
+    {
         Reading {
             gets: Gets::Any,
             conflicts: ConflictReading::Unknown,
@@ -79,11 +82,25 @@ impl Reading {
 
     /// Returns the rules by which a text is read.
     pub fn rules(self) -> TextRules
-        ensures { result ≡ record { failed = self.failed; writes = self.writes } }
+        ensures { result ≡ rules_of self }
     {
         TextRules {
             failed: self.failed,
             writes: self.writes,
         }
+    }
+    /// Returns whether the reading leaves each event as it is, so that the text's own history is judged.
+    pub fn leaves_events(self) -> bool
+        ensures { result ≡ leaves_events self }
+    {
+        let is_shown = match (self.gets, self.conflicts) {
+            (Gets::Last, ConflictReading::Plain | ConflictReading::Maybe) => true,
+            (Gets::Last, ConflictReading::Unknown) | (Gets::Any, _) => false,
+        };
+        let is_alone = match (self.writes, self.failed) {
+            (Writes::Once, Failed::Lost) => true,
+            (Writes::Once, Failed::Trusted) | (Writes::Repeated, _) => false,
+        };
+        is_shown && is_alone
     }
 }

@@ -1,75 +1,91 @@
 -- What the lines and texts that are written say of the inputs.
-use Rattle.std.proofs.Common.{ℕ, suc, ◌≡◌, ◌≤◌, None, List, ap, map, sym, subst, ◌∙◌, Option, Some, Ok, Err, inl, inr, codes, Vec, Global}
-use Rattle.std.specs.Prelude.{IfOk, IfSome, Result}
+use Rattle.std.proofs.Common.{ℕ, suc, ◌≡◌, ◌≢◌, ◌+◌, ◌-◌, ◌≤◌, None, List, ap, map, refl, sym, subst, ◌∙◌, Option, Some, Ok, Err, inl, inr, codes, Vec, Global, Bool, true, length, unwrap_or, ◌⊎◌}
+use Rattle.std.specs.Prelude.{IfOk, IfSome, IsTrue, Result, ◌↔◌}
 use Rattle.std.specs.declared.alloc.AllocError.{AllocError}
 use Rattle.doc_register.specs.declared.state.Conflicts.{Conflicts}
 use Rattle.events.specs.declared.event.Event.{Event}
 use Rattle.api_lines.specs.declared.text_fault.TextFault.{TextFault}
-use Rattle.events.specs.Events.{prefix}
+use Rattle.events.specs.Events.{IsHistory, prefix}
 use Rattle.events.specs.Laws.{PrefixesStay}
-use Rattle.events.specs.Order.{IsLinearizable}
-use Rattle.history.specs.Reading.{history_text}
+use Rattle.events.specs.Order.{Explains, IsLinearizable, Placed}
+use Rattle.history.specs.ByRules.{history_text_by}
+use Rattle.history.specs.Laws.{TextsAreReadByRules}
 use Rattle.history.specs.Text.{IsHistoryText}
-use Rattle.places.specs.Documents.{doc_places, witness_places}
-use Rattle.places.specs.declared.place.Place.{Place}
-use Rattle.witness.specs.Text.{AreWithinLimits, witness_text}
-use Rattle.places.specs.Witness.{Witness}
-use Rattle.covers.specs.Covers.{AreCover, AreWitnesses}
-use Rattle.evidence.specs.Evidence.{Holds, IsOfCalls, IsReported, IsWithoutRuledOut}
+use Rattle.history.specs.declared.text_read.TextRead.{TextRead}
+use Rattle.history.specs.declared.text_rules.TextRules.{TextRules}
+use Rattle.readings.specs.Gets.{IsExplained}
+use Rattle.readings.specs.Laws.{EvidenceRefutesReadings}
+use Rattle.readings.specs.Reading.{conflicts_as, rules_of}
+use Rattle.readings.specs.WayBack.{evidence_in_text}
+use Rattle.readings.specs.declared.reading.Reading.{Reading}
+use Rattle.evidence.specs.Evidence.{EvidenceRefutes, Holds, IsOfCalls, IsReported, IsWithoutRuledOut}
 use Rattle.evidence.specs.declared.refuted.Refuted.{Refuted as Evidence}
 use Rattle.evidence.specs.declared.refuted.Refuted.TheVariants as evidence
 use Rattle.evidence.specs.declared.certainty.Certainty.{Certainty}
 use Rattle.evidence.specs.declared.ruling_out.RulingOut.{RulingOut}
 use Rattle.evidence.specs.declared.ruling_out.RulingOut.TheVariants.{On}
-use Rattle.compose.specs.Certainties.{Says}
-use Rattle.compose.specs.Verdicts.{HasNoOrderFound, Unproven}
-use Rattle.compose.specs.VerifyFaults.{IsFirstVerifyFault}
-use Rattle.compose.specs.declared.verify_fault.VerifyFault.{VerifyFault}
+use Rattle.compose.specs.Certainties.{Says as SaysOf}
+use Rattle.compose.specs.Counts.{calls_counted, calls_of, is_counted}
+use Rattle.compose.specs.Laws.{IsComplete, places_numbered}
+use Rattle.covers.specs.Covers.{AreCover}
+use Rattle.places.specs.Documents.{DocPlaces}
+use Rattle.witness.specs.Text.{witness_text}
+use Rattle.compose.specs.Verdicts.{HasNoOrderFound, Proven, Unproven}
 use Rattle.compose.specs.Offences.{IsOffence}
 use Rattle.compose.specs.declared.offence.Offence.{Offence}
 use Rattle.stream_io.specs.declared.status.Status.{Status}
-use Rattle.stream_io.specs.declared.status.Status.TheVariants.{No, Refuted, Refused}
-use Rattle.result_lines.specs.Lines.{broken_line, no_line, refused_file_line, refused_line, refuted_line}
+use Rattle.stream_io.specs.declared.status.Status.TheVariants.{Yes, No, Refuted, Refused}
+use Rattle.result_lines.specs.Lines.{refused_line}
+use Rattle.result_lines.specs.Objects.{line_of}
+use Rattle.result_lines.specs.declared.reported.Reported.{Reported}
+use Rattle.result_lines.specs.declared.reported.Reported.TheVariants as reported
+use Rattle.result_lines.specs.declared.text_counts.TextCounts.{TextCounts}
 use Rattle.report.specs.Bulk.{AnswersBulk, IsBulkAnswer}
+use Rattle.report.specs.Calls.{CountsCalls}
+use Rattle.report.specs.Details.{IsProvedOf, calls_reported, status_of}
+use Rattle.report.specs.aids.Counting.{AreCountsOf}
 use Rattle.report.specs.aids.Earlier.{IsEarlier, grounds, grounds_by}
+use Rattle.report.specs.aids.Reports.{CountsText, IsProvedFor, IsReportOn}
 use Rattle.report.specs.declared.earlier.Earlier.{Earlier}
-use Rattle.report.specs.Findings.{SaysFailing}
-use Rattle.report.specs.Verdict.{IsAnswer, IsRefutedBy, IsSomeHistory, IsUndecided, IsUnexplained, IsVerifyAnswer, IsWitnessAnswer, IsWitnessed}
-use Rattle.report.proofs.WitnessLimits.{within_limits}
+use Rattle.report.specs.Verdict.{AnswersInput, HasGetsExplained, IsAnswer, IsExplainedWith, IsOfGet, IsOfJudged, IsReadBy, IsRefutedBy, IsUndecided, IsUnexplained, IsVerified, IsWitnessAnswer, Says, get_offence, judged, offence_in_text, own_numbers}
+use Rattle.report.proofs.OwnCalls.{own_calls}
 
--- ---- answers
+-- ---- from what was read to the bytes
 
-pub is_refusal : (ruling : RulingOut) (conflicts : Conflicts) (input : List ℕ) (status : Status) (text : List ℕ) (reported : TextFault) → status ≡ Refused → text ≡ refused_line reported.line reported.cause
-    → history_text input ≡ Err reported → IsAnswer ruling conflicts input status text × IsWitnessAnswer ruling conflicts input status text
-is_refusal ruling conflicts input status text reported is line refused =
-    subst (λ s. IsAnswer ruling conflicts input s text × IsWitnessAnswer ruling conflicts input s text) (sym is) ((reported, line, refused), (reported, line, refused))
+-- by the law of texts the bytes are read so
+pub read_by : (reading : Reading) (input : List ℕ) (read : TextRead) → TextsAreReadByRules → history_text_by (rules_of reading) input ≡ Ok read → IsReadBy reading input read
+read_by reading input read laws is = record { is_text = laws.read (rules_of reading) input read is; is_read = is }
 
-pub is_undecided : (ruling : RulingOut) (conflicts : Conflicts) (input : List ℕ) (H : List Event) (status : Status) (text : List ℕ) (o : Offence) → status ≡ No
-    → text ≡ no_line o → IsHistoryText input H → HasNoOrderFound conflicts H → IsOffence conflicts H o → (ruling ≡ On → IsWithoutRuledOut conflicts H)
-    → IsAnswer ruling conflicts input status text × IsWitnessAnswer ruling conflicts input status text
-is_undecided ruling conflicts input H status text o is line is_text none_found offence none =
-    let unexplained : IsUnexplained conflicts input o = record { events = H; is_text = is_text; none_found = none_found; offence = offence } in
-    let undecided : IsUndecided ruling conflicts input o = record { unexplained = unexplained; none = none } in
-    (subst (λ s. IsAnswer ruling conflicts input s text) (sym is) (o, line, undecided), subst (λ s. IsWitnessAnswer ruling conflicts input s text) (sym is) (o, line, undecided))
+pub is_answer : (ruling : RulingOut) (reading : Reading) (input : List ℕ) (read : TextRead) (status : Status) (line : List ℕ) → IsReadBy reading input read
+    → Says ruling reading read status line → IsAnswer ruling reading input status line
+is_answer ruling reading input read Yes line by says = (read, by, says)
+is_answer ruling reading input read No line by says = (read, by, says)
+is_answer ruling reading input read Refuted line by says = (read, by, says)
+is_answer ruling reading input read Refused line by says = absurd says
 
-pub is_refuted : (ruling : RulingOut) (conflicts : Conflicts) (input : List ℕ) (H : List Event) (status : Status) (text : List ℕ) (reported : Evidence) (o : Offence) → status ≡ Refuted
-    → text ≡ refuted_line reported o → IsHistoryText input H → HasNoOrderFound conflicts H → IsOffence conflicts H o → Holds conflicts H reported → IsReported ruling conflicts H reported → (IsLinearizable conflicts H → ⊥)
-    → IsAnswer ruling conflicts input status text × IsWitnessAnswer ruling conflicts input status text
-is_refuted ruling conflicts input H status text reported o is line is_text none_found offence holds reportable no_order =
-    let unexplained : IsUnexplained conflicts input o = record { events = H; is_text = is_text; none_found = none_found; offence = offence } in
-    let by : IsRefutedBy ruling conflicts input reported o = record { unexplained = unexplained; holds = holds; reportable = reportable; no_order = no_order } in
-    (subst (λ s. IsAnswer ruling conflicts input s text) (sym is) (reported, o, line, by), subst (λ s. IsWitnessAnswer ruling conflicts input s text) (sym is) (reported, o, line, by))
+pub is_witness_answer : (ruling : RulingOut) (reading : Reading) (input : List ℕ) (read : TextRead) (status : Status) (line : List ℕ) → IsReadBy reading input read
+    → status ≢ Yes → Says ruling reading read status line → IsWitnessAnswer ruling reading input status line
+is_witness_answer ruling reading input read Yes line by other says = absurd (other refl)
+is_witness_answer ruling reading input read No line by other says = (read, by, says)
+is_witness_answer ruling reading input read Refuted line by other says = (read, by, says)
+is_witness_answer ruling reading input read Refused line by other says = absurd says
 
-pub witnessed : (conflicts : Conflicts) (input : List ℕ) (H : List Event) (ws : List Witness) (text : List ℕ) → IsHistoryText input H → AreWitnesses conflicts H ws → IsLinearizable conflicts H
-    → (AreWithinLimits (map witness_places ws) → witness_text text ≡ Ok (map witness_places ws)) → IsWitnessed conflicts input text
-witnessed conflicts input H ws text is are explained reads = record {
-  events = H;
-  is_text = is;
-  entries = map witness_places ws;
-  reads = reads (within_limits conflicts H ws is.history is.events_fit are);
-  cover = are.cover;
-  explained = explained;
-}
+pub is_proved : (reading : Reading) (input : List ℕ) (read : TextRead) (said : Reported) (proved : Option Bool) → IsReadBy reading input read
+    → IsProvedFor reading read said proved → IsProvedOf reading input said proved
+is_proved reading input read (reported.Yes c) proved by is = is
+is_proved reading input read (reported.No o) proved by is = (read, by, is)
+is_proved reading input read (reported.Refuted e o) proved by is = (is.0, (read, by, is.1))
+is_proved reading input read (reported.Refused f) proved by is = absurd is
+is_proved reading input read (reported.Verified c) proved by is = absurd is
+is_proved reading input read (reported.RefusedHistory f) proved by is = absurd is
+is_proved reading input read (reported.RefusedWitness f) proved by is = absurd is
+is_proved reading input read (reported.Broken f) proved by is = absurd is
+is_proved reading input read (reported.BrokenGet e) proved by is = absurd is
+
+counts_calls : (reading : Reading) (input : List ℕ) (read : TextRead) (status : Status) (calls : Option ℕ) → IsReadBy reading input read
+    → CountsText read status calls → CountsCalls input status calls
+counts_calls reading input read status None by counts = counts
+counts_calls reading input read status (Some n) by counts = (counts.0, (read.history, by.is_text, counts.1))
 
 -- ---- what is said of all bytes of a reader
 
@@ -77,27 +93,178 @@ pub if_any : {P : List ℕ → Type 0} (input : Option (List ℕ)) → ((bytes :
 if_any None all = tt
 if_any (Some bytes) all = all bytes
 
--- ---- answers to both texts
+pub if_read : {P : List ℕ → Type 0} (reading : Reading) (read : TextRead) (input : Option (List ℕ)) → TextsAreReadByRules
+    → IfSome input (λ text. history_text_by (rules_of reading) text ≡ Ok read) → ((bytes : List ℕ) → IsReadBy reading bytes read → P bytes) → IfSome input P
+if_read reading read None laws is all = tt
+if_read reading read (Some bytes) laws is all = all bytes (read_by reading bytes read laws is)
 
-pub verify_refused_history : (conflicts : Conflicts) (history witness : List ℕ) (status : Status) (text : List ℕ) (reported : TextFault) → status ≡ Refused
-    → text ≡ refused_file_line (codes "history") reported.line reported.cause → history_text history ≡ Err reported → IsVerifyAnswer conflicts history witness status text
-verify_refused_history conflicts history witness status text reported is line refused =
-    subst (λ s. IsVerifyAnswer conflicts history witness s text) (sym is) (inl (reported, line, refused))
+-- a report on what was read answers the bytes of the reader
+pub report_answers : (ruling : RulingOut) (reading : Reading) (read : TextRead) (input : Option (List ℕ)) (said : Reported) (proved : Option Bool) → TextsAreReadByRules
+    → IfSome input (λ text. history_text_by (rules_of reading) text ≡ Ok read) → IsReportOn ruling reading read said proved
+    → AnswersInput ruling reading input (status_of said) (line_of said)
+report_answers ruling reading read input said proved laws is report =
+    if_read reading read input laws is (λ bytes by. is_answer ruling reading bytes read (status_of said) (line_of said) by report.says)
 
-pub verify_refused_witness : (conflicts : Conflicts) (history witness : List ℕ) (status : Status) (text : List ℕ) (reported : TextFault) → status ≡ Refused
-    → text ≡ refused_file_line (codes "witness") reported.line reported.cause → IsSomeHistory history → witness_text witness ≡ Err reported → IsVerifyAnswer conflicts history witness status text
-verify_refused_witness conflicts history witness status text reported is line some refused =
-    subst (λ s. IsVerifyAnswer conflicts history witness s text) (sym is) (inr (reported, line, some, refused))
+pub report_counts : (ruling : RulingOut) (reading : Reading) (read : TextRead) (input : Option (List ℕ)) (said : Reported) (proved : Option Bool) → TextsAreReadByRules
+    → IfSome input (λ text. history_text_by (rules_of reading) text ≡ Ok read) → IsReportOn ruling reading read said proved
+    → IfSome input (λ bytes. CountsCalls bytes (status_of said) (calls_reported said))
+report_counts ruling reading read input said proved laws is report =
+    if_read reading read input laws is (λ bytes by. counts_calls reading bytes read (status_of said) (calls_reported said) by report.calls)
 
-pub verify_no : (conflicts : Conflicts) (input witness : List ℕ) (H : List Event) (es : List (List ℕ × Vec Place Global)) (status : Status) (text : List ℕ) (reported : VerifyFault)
-    → status ≡ No → text ≡ broken_line reported → IsHistoryText input H → witness_text witness ≡ Ok (map doc_places es)
-    → IsFirstVerifyFault conflicts H (map doc_places es) reported → (AreCover conflicts H (map doc_places es) → ⊥) → IsVerifyAnswer conflicts input witness status text
-verify_no conflicts input witness H es status text reported is line is_text reads first no_cover =
-    subst (λ s. IsVerifyAnswer conflicts input witness s text) (sym is) (
-      reported,
-      line,
-      record { events = H; is_text = is_text; entries = map doc_places es; reads = reads; first = first; no_cover = no_cover },
-    )
+pub report_proves : (ruling : RulingOut) (reading : Reading) (read : TextRead) (input : Option (List ℕ)) (said : Reported) (proved : Option Bool) → TextsAreReadByRules
+    → IfSome input (λ text. history_text_by (rules_of reading) text ≡ Ok read) → IsReportOn ruling reading read said proved
+    → IfSome input (λ bytes. IsProvedOf reading bytes said proved)
+report_proves ruling reading read input said proved laws is report =
+    if_read reading read input laws is (λ bytes by. is_proved reading bytes read said proved by report.proof)
+
+-- a refused line answers them
+pub refusal_answers : (ruling : RulingOut) (reading : Reading) (input : Option (List ℕ)) (fault : TextFault)
+    → IfSome input (λ text. history_text_by (rules_of reading) text ≡ Err fault) → AnswersInput ruling reading input Refused (refused_line fault.line fault.cause)
+refusal_answers ruling reading None fault is = tt
+refusal_answers ruling reading (Some bytes) fault is = (fault, refl, is)
+
+-- ---- what was found
+
+-- evidence of calls may always be reported
+pub calls_reportable : (ruling : RulingOut) (conflicts : Conflicts) (H : List Event) (found : Option Evidence) → IfSome found IsOfCalls → IfSome found (IsReported ruling conflicts H)
+calls_reportable ruling conflicts H None calls = tt
+calls_reportable ruling conflicts H (Some (evidence.PairTwice a b)) calls = tt
+calls_reportable ruling conflicts H (Some (evidence.NoWriter g)) calls = tt
+calls_reportable ruling conflicts H (Some (evidence.StaleGet g w)) calls = tt
+calls_reportable ruling conflicts H (Some (evidence.MissedWrite g w)) calls = tt
+calls_reportable ruling conflicts H (Some (evidence.StaleSwap a b)) calls = tt
+calls_reportable ruling conflicts H (Some (evidence.RuledOut n)) calls = absurd calls
+
+-- ---- reports on what was read
+
+-- the counts of a text that is explained
+pub explained_with : (reading : Reading) (read : TextRead) (proof : Proven) (counts : TextCounts) → proof.events ≡ judged reading read
+    → proof.conflicts ≡ conflicts_as reading.conflicts → AreCountsOf reading proof read.history counts → HasGetsExplained reading read → IsExplainedWith reading read counts
+explained_with reading read proof counts same way are gets = record {
+  documents = are.documents;
+  all_calls = are.all_calls;
+  order = are.placed.order;
+  explains = subst (λ c. Explains c (judged reading read) are.placed.order) way (subst (λ H. Explains proof.conflicts H are.placed.order) same are.placed.explains);
+  unplaced = are.unplaced;
+  the_rest =
+      are.placed.the_rest
+      ∙ (ap (λ H. calls_counted (own_numbers reading.writes) H) same ∙ (own_calls reading read ∙ are.all_calls));
+  gets = are.gets;
+  left_out = are.left_out;
+  explained = gets;
+}
+
+-- the entries of a witness that cover what is judged, and the counts of the text
+pub verified_with : (reading : Reading) (read : TextRead) (proof : Proven) (counts : TextCounts) (entries : List DocPlaces) (witness : List ℕ) → proof.events ≡ judged reading read
+    → proof.conflicts ≡ conflicts_as reading.conflicts → (are : AreCountsOf reading proof read.history counts) → HasGetsExplained reading read → witness_text witness ≡ Ok entries
+    → AreCover (conflicts_as reading.conflicts) (judged reading read) entries
+    → places_numbered (is_counted (own_numbers reading.writes)) (judged reading read) entries + are.unplaced ≡ counts.calls → IsVerified reading read witness counts
+unfolding explained_with
+verified_with reading read proof counts entries witness same way are gets reads cover placed = record {
+  entries = entries;
+  reads = reads;
+  cover = cover;
+  explained = explained_with reading read proof counts same way are gets;
+  placed = placed;
+}
+
+pub yes_report : (ruling : RulingOut) (reading : Reading) (read : TextRead) (proof : Proven) (counts : TextCounts) → proof.events ≡ judged reading read
+    → proof.conflicts ≡ conflicts_as reading.conflicts → AreCountsOf reading proof read.history counts → HasGetsExplained reading read
+    → IsReportOn ruling reading read (reported.Yes counts) (Some true)
+yes_report ruling reading read proof counts same way are gets = record {
+  says = (counts, refl, explained_with reading read proof counts same way are gets);
+  proof = refl;
+  calls = (refl, are.all_calls);
+}
+
+-- a get that nothing explains refutes the text
+pub get_refutes : (reading : Reading) (read : TextRead) (e : Evidence) → EvidenceRefutesReadings → IsOfGet reading read e → ¬ IsExplained reading read.voids read.history
+get_refutes reading read e laws get = laws.gets reading read.voids read.history e get.any get.unexplained
+
+pub get_report : (ruling : RulingOut) (reading : Reading) (read : TextRead) (e : Evidence) → EvidenceRefutesReadings → IsOfGet reading read e
+    → IsLinearizable (conflicts_as reading.conflicts) (judged reading read)
+    → IsReportOn ruling reading read (reported.Refuted e (get_offence read.history e)) (Some true)
+get_report ruling reading read e laws get order = record {
+  says = (
+    e,
+    get_offence read.history e,
+    refl,
+    record {
+      evidence = inr get;
+      offence = inr (get, order, refl);
+      no_order = get_refutes reading read e laws get;
+    },
+  );
+  proof = (refl, get_refutes reading read e laws get);
+  calls = λ yes. absurd (cc);
+}
+
+-- what was found without an order
+unexplained : (reading : Reading) (read : TextRead) (own : Offence) → HasNoOrderFound (conflicts_as reading.conflicts) (judged reading read)
+    → IsOffence (conflicts_as reading.conflicts) (judged reading read) own → IsUnexplained reading read (offence_in_text reading.writes read.history own)
+unexplained reading read own none offence = record { none_found = none; own = own; offence = offence; in_text = refl }
+
+pub get_report_without : (ruling : RulingOut) (reading : Reading) (read : TextRead) (own : Offence) (e : Evidence) → EvidenceRefutesReadings
+    → HasNoOrderFound (conflicts_as reading.conflicts) (judged reading read) → IsOffence (conflicts_as reading.conflicts) (judged reading read) own → IsOfGet reading read e
+    → IsReportOn ruling reading read (reported.Refuted e (offence_in_text reading.writes read.history own)) (Some true)
+get_report_without ruling reading read own e laws none offence get = record {
+  says = (
+    e,
+    offence_in_text reading.writes read.history own,
+    refl,
+    record {
+      evidence = inr get;
+      offence = inl (unexplained reading read own none offence);
+      no_order = get_refutes reading read e laws get;
+    },
+  );
+  proof = (refl, get_refutes reading read e laws get);
+  calls = λ yes. absurd (cc);
+}
+
+-- evidence in what is judged refutes the text
+judged_refutes : (reading : Reading) (read : TextRead) (own : Evidence) → EvidenceRefutes → IsHistory (judged reading read)
+    → Holds (conflicts_as reading.conflicts) (judged reading read) own → ¬ IsExplained reading read.voids read.history
+judged_refutes reading read own law history holds explained = law (conflicts_as reading.conflicts) (judged reading read) own history holds explained.linearizable
+
+pub evidence_report : (ruling : RulingOut) (reading : Reading) (read : TextRead) (own : Offence) (e : Evidence) → EvidenceRefutes → IsHistory (judged reading read)
+    → HasNoOrderFound (conflicts_as reading.conflicts) (judged reading read) → IsOffence (conflicts_as reading.conflicts) (judged reading read) own
+    → Holds (conflicts_as reading.conflicts) (judged reading read) e → IsReported ruling (conflicts_as reading.conflicts) (judged reading read) e
+    → IsReportOn ruling reading read (reported.Refuted (evidence_in_text reading.writes read.history e) (offence_in_text reading.writes read.history own)) (Some true)
+evidence_report ruling reading read own e law history none offence holds reportable = record {
+  says = (
+    evidence_in_text reading.writes read.history e,
+    offence_in_text reading.writes read.history own,
+    refl,
+    record {
+      evidence = inl (record { own = e; holds = holds; reportable = reportable; in_text = refl });
+      offence = inl (unexplained reading read own none offence);
+      no_order = judged_refutes reading read e law history holds;
+    },
+  );
+  proof = (refl, judged_refutes reading read e law history holds);
+  calls = λ yes. absurd (cc);
+}
+
+pub no_report : (ruling : RulingOut) (reading : Reading) (read : TextRead) (own : Offence) (proved : Bool) → HasNoOrderFound (conflicts_as reading.conflicts) (judged reading read)
+    → IsOffence (conflicts_as reading.conflicts) (judged reading read) own → HasGetsExplained reading read
+    → (ruling ≡ On → IsWithoutRuledOut (conflicts_as reading.conflicts) (judged reading read))
+    → (IsTrue proved ↔ IsComplete (conflicts_as reading.conflicts) (judged reading read))
+    → (IsTrue proved → ¬ IsLinearizable (conflicts_as reading.conflicts) (judged reading read))
+    → IsReportOn ruling reading read (reported.No (offence_in_text reading.writes read.history own)) (Some proved)
+no_report ruling reading read own proved none offence gets without complete no_order = record {
+  says = (
+    offence_in_text reading.writes read.history own,
+    refl,
+    record {
+      unexplained = unexplained reading read own none offence;
+      gets = gets;
+      none = without;
+    },
+  );
+  proof = (proved, refl, complete, λ yes explained. no_order yes explained.linearizable);
+  calls = λ yes. absurd (cc);
+}
 
 -- ---- a bulk
 
@@ -109,23 +276,7 @@ bulk_of_inputs first b r bytes others (Some x) None status text is_b is_r all_bo
 bulk_of_inputs first b r bytes others (Some x) (Some y) status text is_b is_r all_body all_reply is =
     subst (λ xs. IsBulkAnswer first xs y status text) (is_b ∙ all_body) (subst (λ ys. IsBulkAnswer first b ys status text) (is_r ∙ all_reply) is)
 
--- ---- what was found
-
--- evidence of calls may always be reported
-pub calls_reported : (ruling : RulingOut) (conflicts : Conflicts) (H : List Event) (found : Option Evidence) → IfSome found IsOfCalls → IfSome found (IsReported ruling conflicts H)
-calls_reported ruling conflicts H None calls = tt
-calls_reported ruling conflicts H (Some (evidence.PairTwice a b)) calls = tt
-calls_reported ruling conflicts H (Some (evidence.NoWriter g)) calls = tt
-calls_reported ruling conflicts H (Some (evidence.StaleGet g w)) calls = tt
-calls_reported ruling conflicts H (Some (evidence.MissedWrite g w)) calls = tt
-calls_reported ruling conflicts H (Some (evidence.StaleSwap a b)) calls = tt
-calls_reported ruling conflicts H (Some (evidence.RuledOut n)) calls = absurd calls
-
--- the evidence of a line holds
-evidence_holds : (ruling : RulingOut) (conflicts : Conflicts) (H : List Event) (status : Status) (line : List ℕ) (o : Offence) (found : Option Evidence)
-    → SaysFailing ruling conflicts H status line o found → IfSome found (Holds conflicts H)
-evidence_holds ruling conflicts H status line o None says = tt
-evidence_holds ruling conflicts H status line o (Some reported) says = says.2
+-- ---- prefixes
 
 -- a history that has a prefix without an order has none
 pub prefix_refutes : (c d : Conflicts) (whole part : List Event) (n : ℕ) → PrefixesStay → c ≡ d → part ≡ prefix whole n
@@ -135,20 +286,20 @@ prefix_refutes c d whole part n stay same is none order =
 
 -- what is found of a prefix without an order is found of the whole
 found_earlier : (whole part : Unproven) (o : Offence) (n : ℕ) (found : Option Earlier) → PrefixesStay → n ≤ suc o.event → part.events ≡ prefix whole.events n → part.conflicts ≡ whole.conflicts
-    → IfSome found (λ e. e.case ≡ part) → IfSome found (λ e. Says part.conflicts part.events e.failing.evidence o.call e.certainty)
+    → IfSome found (λ e. e.case ≡ part) → IfSome found (λ e. SaysOf part.conflicts part.events e.failing.evidence o.call e.certainty)
     → IfSome found (λ _. ¬ IsLinearizable part.conflicts part.events) → IfSome found (IsEarlier whole o)
 found_earlier whole part o n None stay few is same case says none = tt
 found_earlier whole part o n (Some e) stay few is same case says none = record {
   conflicts = ap (λ (c : Unproven). c.conflicts) case ∙ same;
   part = (n, few, ap (λ (c : Unproven). c.events) case ∙ is);
-  says = subst (λ (c : Unproven). Says c.conflicts c.events e.failing.evidence o.call e.certainty) (sym case) says;
+  says = subst (λ (c : Unproven). SaysOf c.conflicts c.events e.failing.evidence o.call e.certainty) (sym case) says;
   no_order = prefix_refutes part.conflicts whole.conflicts whole.events part.events n stay same is none;
 }
 
 -- the same if memory may be refused
 pub earlier_found : (whole part : Unproven) (o : Offence) (n : ℕ) (found : Result (Option Earlier) AllocError) → PrefixesStay → n ≤ suc o.event
     → part.events ≡ prefix whole.events n → part.conflicts ≡ whole.conflicts → IfOk found (λ it. IfSome it (λ e. e.case ≡ part))
-    → IfOk found (λ it. IfSome it (λ e. Says part.conflicts part.events e.failing.evidence o.call e.certainty))
+    → IfOk found (λ it. IfSome it (λ e. SaysOf part.conflicts part.events e.failing.evidence o.call e.certainty))
     → IfOk found (λ it. IfSome it (λ _. ¬ IsLinearizable part.conflicts part.events)) → IfOk found (λ it. IfSome it (IsEarlier whole o))
 earlier_found whole part o n (Err e) stay few is same case says none = tt
 earlier_found whole part o n (Ok found) stay few is same case says none = found_earlier whole part o n found stay few is same case says none

@@ -1,3 +1,11 @@
-mod WitnessLimits
 mod AnswerLemmas
-mod DetailLemmas
+mod FindingLemmas
+mod FoundReports
+mod InputAnswers
+mod KnownAnswers
+mod OwnCalls
+mod RoomLemmas
+mod TextInputs
+mod VerifyAnswers
+mod WitnessAnswers
+mod WitnessLimits

@@ -1,8 +1,6 @@
 -- How many calls a history has that is answered with yes.
-use Rattle.std.specs.Prelude.{◌≡◌, ◌≢◌, ℕ, List, Option, Some, None, MatchOption}
+use Rattle.std.specs.Prelude.{◌≡◌, ◌≢◌, ℕ, List, Option, MatchOption}
 use Rattle.compose.specs.Counts.{calls_of}
-use Rattle.compose.specs.declared.finding.Finding.{Finding}
-use Rattle.compose.specs.declared.finding.Finding.TheVariants.{Explained, Unexplained}
 use Rattle.events.specs.declared.event.Event.{Event}
 use Rattle.history.specs.Text.{IsHistoryText}
 use Rattle.stream_io.specs.declared.status.Status.{Status}
@@ -12,11 +10,6 @@ use Rattle.stream_io.specs.declared.status.Status.TheVariants.{Yes}
 -- Source: profile.
 abbrev pub HasCalls : List ℕ → ℕ → Type 0
 HasCalls input n = (events : List Event) × IsHistoryText input events × (calls_of events ≡ n)
-
--- the number of calls of a history that has an order
-abbrev pub calls_explained : Finding → Option ℕ
-calls_explained (Explained proof) = Some (calls_of proof.events)
-calls_explained (Unexplained case failing) = None
 
 -- the number of calls that comes with an answer: that of the history if the answer is yes, and else none
 abbrev pub CountsCalls : List ℕ → Status → Option ℕ → Type 0

@@ -1,7 +1,7 @@
 -- What is answered if a witness is asked for, piece by piece.
 use Rattle.std.specs.Prelude.{◌≢◌, ℕ, List, Option, IfSome}
-use Rattle.doc_register.specs.declared.state.Conflicts.{Conflicts}
 use Rattle.evidence.specs.declared.ruling_out.RulingOut.{RulingOut}
+use Rattle.readings.specs.declared.reading.Reading.{Reading}
 use Rattle.result_lines.specs.Objects.{line_of}
 use Rattle.stream_io.specs.declared.status.Status.TheVariants.{Yes}
 use Rattle.report.specs.Details.{IsProvedOf, status_of}
@@ -12,12 +12,12 @@ use Rattle.report.specs.declared.witnessed.Witnessed.TheVariants.{Text, Answered
 -- it is the text of a witness, or what a line of a check reports that is not yes (`IsWitnessAnswer`), with what is
 -- proved of it (`IsProvedOf`)
 -- Source: profile.
-abbrev pub IsWitnessedBy : RulingOut → Conflicts → List ℕ → Witnessed → Type 0
-IsWitnessedBy ruling conflicts input (Text text) = IsWitnessAnswer ruling conflicts input Yes text.items
-IsWitnessedBy ruling conflicts input (Answered details) =
-    (status_of details.reported ≢ Yes) × IsWitnessAnswer ruling conflicts input (status_of details.reported) (line_of details.reported)
-    × IsProvedOf conflicts input details.reported details.proved
+abbrev pub IsWitnessedBy : RulingOut → Reading → List ℕ → Witnessed → Type 0
+IsWitnessedBy ruling reading input (Text text) = IsWitnessAnswer ruling reading input Yes text.items
+IsWitnessedBy ruling reading input (Answered details) =
+    (status_of details.reported ≢ Yes) × IsWitnessAnswer ruling reading input (status_of details.reported) (line_of details.reported)
+    × IsProvedOf reading input details.reported details.proved
 
 -- it is one for the bytes that the reader had, if they are known
-abbrev pub WitnessesBy : RulingOut → Conflicts → Option (List ℕ) → Witnessed → Type 0
-WitnessesBy ruling conflicts input found = IfSome input (λ bytes. IsWitnessedBy ruling conflicts bytes found)
+abbrev pub WitnessesBy : RulingOut → Reading → Option (List ℕ) → Witnessed → Type 0
+WitnessesBy ruling reading input found = IfSome input (λ bytes. IsWitnessedBy ruling reading bytes found)

@@ -1,34 +1,39 @@
 //! What a check finds in a text, piece by piece: what its line reports, and what is known beside.
 
-ghost use Rattle.std.specs.Prelude.{◌≡◌, ◌≢◌, IfErr, IfOk, IfSome, IsTrue, None as Nothing, ℕ, List};
-ghost use Rattle.evidence.specs.Evidence.{Holds};
-ghost use Rattle.events.specs.Order.{IsLinearizable};
-ghost use Rattle.history.specs.Text.{IsHistoryText};
+ghost use Rattle.std.specs.Prelude.{◌≡◌, ◌≢◌, ◌≤◌, IfErr, IfOk, IfSome, None as Nothing, ℕ, List};
+ghost use Rattle.evidence.specs.declared.ruling_out.RulingOut.{RulingOut as Ruling};
+ghost use Rattle.events.specs.Refusal.{most_events};
+ghost use Rattle.history.specs.ByRules.{room_taken};
+ghost use Rattle.history.specs.Laws.{AreLost};
+ghost use Rattle.history.specs.declared.text_read.TextRead.{TextRead as TextOf};
+ghost use Rattle.readings.specs.Reading.{rules_of};
 ghost use Rattle.result_lines.specs.Objects.{line_of};
 ghost use Rattle.stream_io.specs.Faults.{IsCheckFault, IsReadingFault};
 ghost use Rattle.stream_io.specs.Taken.{TakesHistory};
 ghost use Rattle.report.specs.Calls.{CountsCalls};
 ghost use Rattle.report.specs.Details.{IsProvedOf, calls_reported, status_of};
-ghost use Rattle.report.specs.Findings.{HasItsEvidence};
-ghost use Rattle.report.specs.aids.Reports.{IsOnDocumentOf, IsProvedBy, IsReportOf};
-ghost use Rattle.report.specs.Verdict.{AnswersInput, IsAnswer, IsWitnessAnswer};
+ghost use Rattle.report.specs.Findings.{IsFoundOf};
+ghost use Rattle.report.specs.aids.Reports.{HasStatus, IsOnDocumentOf, IsReportOn};
+ghost use Rattle.report.specs.Verdict.{AnswersInput};
 ghost use Rattle.report.specs.Workers.{AreWorkers, HasDocument, NamesOwnDocument};
 
-use crate::check_answer::{case_answer, verdict_by};
 use crate::check_options::CheckOptions;
-use crate::numbered_input::read_numbered;
+use crate::finding::find;
 use crate::progress::{CheckProgress, CheckStage};
+use crate::reported::Answer;
+use crate::text_finding::TextFinding;
+use crate::text_input::{Kept, NumberedText, read_numbered};
 use api_lines::TextFault;
-use compose::{Case, Counts, Failing, Finding, Offence, RulingOut, Verdict, is_complete_case};
+use compose::Offence;
 use events::{Event, HashKeys, History};
-use evidence::laws::evidence_refutes;
-use history::laws::one_history;
+use history::laws::texts_are_read_by_rules;
+use readings::Reading;
 use result_lines::{BrokenReply, Reported};
 use std::alloc::Global;
 use std::io::Read;
 use std::sync::Wait;
 use std::thread::Threads;
-use story::{EventLines, Kept, time_text};
+use story::{EventLines, time_text};
 use stream_io::{Status, StreamFault};
 use version_pair::NoMemory;
 
@@ -64,7 +69,7 @@ pub fn status_of(reported: &Reported) -> Status
 {
     match reported {
         Reported::Yes(_) | Reported::Verified(_) => Status::Yes,
-        Reported::No(_) | Reported::Broken(_) => Status::No,
+        Reported::No(_) | Reported::Broken(_) | Reported::BrokenGet(_) => Status::No,
         Reported::Refuted(..) => Status::Refuted,
         Reported::Refused(_) | Reported::RefusedHistory(_) | Reported::RefusedWitness(_) => {
             Status::Refused
@@ -80,21 +85,6 @@ pub fn calls_reported(reported: &Reported) -> Option<usize>
     match reported {
         Reported::Yes(counts) => Some(counts.calls),
         _ => None,
-    }
-}
-
-// Whether it is proved that no order explains the history of the case: by evidence, or since it is complete.
-fn is_proved(case: &Case, failing: &Failing) -> bool
-    requires { IfSome failing.now.evidence (Holds case.now.conflicts case.now.events) }
-    ensures exact { IsProvedBy failing.now.evidence case.now.conflicts case.now.events result }
-    ensures none { IsTrue result → ¬ IsLinearizable case.now.conflicts case.now.events }
-{
-    // What evidence says is known from here on, and that the case has a history.
-    evidence_refutes();
-    let _ = case.history();
-    match failing.evidence {
-        Some(_) => true,
-        None => is_complete_case(case),
     }
 }
 
@@ -127,80 +117,66 @@ fn broken_reply_of(
     }))
 }
 
-// Returns what the line of a history reports for which no order was found.
-fn failing_reported(failing: &Failing) -> Reported
-    ensures { IsReportOf failing.now.offence failing.now.evidence result }
-{
-    match failing.evidence {
-        Some(evidence) => Reported::Refuted(evidence, failing.offence),
-        None => Reported::No(failing.offence),
+// Returns the offence that is reported, if one is.
+fn offence_of(reported: &Reported) -> Option<Offence> {
+    match reported {
+        Reported::No(offence) | Reported::Refuted(_, offence) => Some(*offence),
+        _ => None,
     }
 }
 
-/// Returns the details of a history for which no order was found, and the evidence and the offence.
-pub fn case_details(
+/// Returns what is reported of a text of which this was found, and what is known beside. Where the broken reply is, it
+/// has only if lines are given.
+pub fn details_of(
     alloc: Global,
-    case: &Case,
-    ruling_out: RulingOut,
-    lines: &EventLines,
-) -> Result<(Details, Failing), NoMemory>
-    ensures answers { IfOk result (λ made. (input : List ℕ) → IsHistoryText input case.now.events
-        → IsAnswer ruling_out case.now.conflicts input (status_of made.0.reported) (line_of made.0.reported)
-        × IsWitnessAnswer ruling_out case.now.conflicts input (status_of made.0.reported) (line_of made.0.reported)) }
-    ensures calls { IfOk result (λ made. (input : List ℕ) → CountsCalls input (status_of made.0.reported)
-        (calls_reported made.0.reported)) }
-    ensures no { IfOk result (λ made. status_of made.0.reported ≢ Status.Yes) }
-    ensures proved { IfOk result (λ made. (input : List ℕ) → IsHistoryText input case.now.events
-        → IsProvedOf case.now.conflicts input made.0.reported made.0.proved) }
-    ensures holds { IfOk result (λ made. IfSome made.1.evidence (Holds case.now.conflicts case.now.events)) }
+    found: &TextFinding,
+    lines: Option<&EventLines>,
+    reading: Reading,
+) -> Result<Details, NoMemory>
+    // The line that reports it says of the text what it is promised to, the number of calls is the text's, and what is
+    // said to be proved is.
+    ensures report { (ruling : Ruling) (read : TextOf) → IsFoundOf ruling reading read found.now
+        → IfOk result (λ made. IsReportOn ruling reading read made.reported made.proved) }
+    // It is yes just if an order explains what was judged, and each get is explained.
+    ensures status { IfOk result (λ made. HasStatus found.now.finding found.now.get (status_of made.reported)) }
 {
-    // That a text is one history's is known from here on.
-    one_history();
-    let (_answer, failing) = case_answer(alloc, case, ruling_out)?;
-    let details = Details {
-        reported: failing_reported(&failing),
-        proved: Some(is_proved(case, &failing)),
-        broken_reply: broken_reply_of(alloc, case.history(), failing.offence, lines)?,
+    let Answer { reported, proved } = found.answer(reading);
+    let broken_reply = match (offence_of(&reported), lines) {
+        (Some(offence), Some(lines)) => { broken_reply_of(alloc, found.history(), offence, lines)? }
+        _ => None,
     };
-    Ok((details, failing))
+    Ok(Details {
+        reported,
+        proved: Some(proved),
+        broken_reply,
+    })
 }
 
-/// Returns the details of a history, and what was found of it.
-pub fn history_details<T: Threads + Wait + Sync>(
+// Returns what a check finds in a text that was read so, piece by piece.
+fn text_details<T: Threads + Wait + Sync>(
     rt: &T,
     alloc: Global,
-    history: History,
-    lines: &EventLines,
+    text: NumberedText,
     options: CheckOptions,
     progress: &CheckProgress,
-) -> Result<(Details, Finding), StreamFault>
+    kept: Kept,
+) -> Result<Details, StreamFault>
     requires workers { AreWorkers options.workers }
-    ensures answer { IfOk result (λ made. (input : List ℕ) → IsHistoryText input history
-        → IsAnswer options.ruling_out options.conflicts input (status_of made.0.reported) (line_of made.0.reported)) }
-    ensures calls { IfOk result (λ made. (input : List ℕ) → IsHistoryText input history
-        → CountsCalls input (status_of made.0.reported) (calls_reported made.0.reported)) }
-    ensures proved { IfOk result (λ made. (input : List ℕ) → IsHistoryText input history
-        → IsProvedOf options.conflicts input made.0.reported made.0.proved) }
-    ensures evidence { IfOk result (λ made. HasItsEvidence made.1) }
+    requires void { AreLost text.read.history text.read.voids }
+    requires room { room_taken options.reading.writes text.read.history ≤ most_events }
+    ensures report { IfOk result (λ made. IsReportOn options.ruling_out options.reading text.read made.reported made.proved) }
     ensures reported { IfErr result IsCheckFault }
-    ensures alone { options.workers ≡ 1 → IfErr result (λ fault. fault ≡ StreamFault.NoMemory) }
-    ensures named { IfErr result (HasDocument history) }
+    ensures alone { options.workers ≡ 1 → IfErr result IsReadingFault }
+    ensures named { IfErr result (HasDocument text.read.history) }
 {
-    match verdict_by(rt, alloc, history, options)? {
-        Verdict::Yes(proof) => {
-            let details = Details {
-                reported: Reported::Yes(Counts::of(&proof)),
-                proved: Some(true),
-                broken_reply: None,
-            };
-            Ok((details, Finding::Explained(proof)))
-        }
-        Verdict::No(case) => {
-            progress.reach(CheckStage::Narrowing);
-            let (details, failing) = case_details(alloc, &case, options.ruling_out, lines)?;
-            Ok((details, Finding::Unexplained(case, failing)))
-        }
-    }
+    let NumberedText { read, lines } = text;
+    let found = find(rt, alloc, read, options, progress)?;
+    let lines = if kept == Kept::Nothing {
+        None
+    } else {
+        Some(&lines)
+    };
+    Ok(details_of(alloc, &found, lines, options.reading)?)
 }
 
 /// Returns what a check finds in the text of a reader, piece by piece: what the line of `check_stream` reports
@@ -219,15 +195,15 @@ pub fn check_details<T: Threads + Wait + Sync, R: Read>(
     // There are 1 to 16 workers.
     requires workers { AreWorkers options.workers }
     // The line that reports it answers the bytes of the reader, as that of `check_stream` does.
-    ensures answer { IfOk result (λ found. AnswersInput options.ruling_out options.conflicts (R.remaining reader.old)
+    ensures answer { IfOk result (λ found. AnswersInput options.ruling_out options.reading (R.remaining reader.old)
         (status_of found.reported) (line_of found.reported)) }
     // The number of calls is that of the history whose text the bytes are, if the answer is yes.
     ensures calls { IfOk result (λ found. IfSome (R.remaining reader.old)
         (λ input. CountsCalls input (status_of found.reported) (calls_reported found.reported))) }
-    // Of a history for which no order was found it is said to be proved that there is none, exactly if evidence was
-    // found or the history is complete; and then there is none.
+    // Of a history for which no order was found it is said to be proved that it isn't explained, exactly if evidence was
+    // found or what is judged is complete; and then it isn't.
     ensures proved { IfOk result (λ found. IfSome (R.remaining reader.old)
-        (λ input. IsProvedOf options.conflicts input found.reported found.proved)) }
+        (λ input. IsProvedOf options.reading input found.reported found.proved)) }
     // The only errors are `Read`, `NoMemory` and `Worker`.
     ensures reported { IfErr result IsCheckFault }
     // With one worker, the caller's thread, the error is never `Worker`.
@@ -236,16 +212,16 @@ pub fn check_details<T: Threads + Wait + Sync, R: Read>(
     ensures named { IfErr result (NamesOwnDocument (R.remaining reader.old)) }
     // No bytes after the first refused line are taken but those that the last read returned, as by
     // `check_stream`.
-    ensures taken { TakesHistory (R.remaining reader.old) (R.remaining reader.new) }
+    ensures taken { TakesHistory (rules_of options.reading) (R.remaining reader.old) (R.remaining reader.new) }
 {
+    // That what is read is a text of its history is known from here on.
+    texts_are_read_by_rules();
     progress.reach(CheckStage::Reading);
-    match read_numbered(alloc, keys, reader, kept) {
-        Ok(Ok((history, lines))) => {
+    match read_numbered(alloc, keys, options.reading.rules(), reader, kept)? {
+        Ok(text) => {
             progress.reach(CheckStage::Searching);
-            let (details, _) = history_details(rt, alloc, history, &lines, options, progress)?;
-            Ok(details)
+            text_details(rt, alloc, text, options, progress, kept)
         }
-        Ok(Err(refused)) => Ok(Details::refused(refused.fault)),
-        Err(fault) => Err(StreamFault::from(fault)),
+        Err(refused) => Ok(Details::refused(refused.fault)),
     }
 }

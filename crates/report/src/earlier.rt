@@ -5,7 +5,7 @@ ghost use Rattle.compose.specs.Certainties.{Says};
 ghost use Rattle.events.specs.Order.{IsLinearizable};
 ghost use Rattle.report.specs.aids.Earlier.{IsEarlier};
 
-use crate::check_answer::evidence_against;
+use crate::finding::evidence_against;
 use compose::{Case, Certainty, Failing, RulingOut, Verdict, certainty_of, check_alone};
 use events::laws::prefixes;
 use std::alloc::{AllocError, Global};

@@ -1,26 +1,32 @@
-ghost use Rattle.std.specs.Prelude.{◌≡◌, IfErr, IfOk, IfSome, ℕ, List};
-ghost use Rattle.history.specs.Text.{IsHistoryText};
+ghost use Rattle.std.specs.Prelude.{◌≡◌, ◌≤◌, IfErr, IfOk, IfSome};
+ghost use Rattle.events.specs.Refusal.{most_events};
+ghost use Rattle.history.specs.ByRules.{room_taken};
+ghost use Rattle.history.specs.Laws.{AreLost};
+ghost use Rattle.report.specs.aids.Reports.{IsReportOn};
 ghost use Rattle.page.specs.Pages.{IsPage};
 ghost use Rattle.result_lines.specs.Objects.{line_of};
 ghost use Rattle.stream_io.specs.Faults.{IsCheckFault, IsReadingFault};
 ghost use Rattle.stream_io.specs.Taken.{TakesHistory};
 ghost use Rattle.report.specs.Details.{IsProvedOf, status_of as reported_status};
 ghost use Rattle.report.specs.Explained.{ExplainsInput};
-ghost use Rattle.report.specs.Verdict.{AnswersInput, IsAnswer};
+ghost use Rattle.report.specs.Verdict.{AnswersInput};
+ghost use Rattle.readings.specs.Reading.{rules_of};
 ghost use Rattle.report.specs.Workers.{AreWorkers, HasDocument, NamesOwnDocument};
 
 use crate::check_options::CheckOptions;
-use crate::details::{Details, history_details, status_of};
+use crate::details::{Details, details_of, status_of};
 use crate::explain::story_of;
-use crate::numbered_input::read_numbered;
+use crate::finding::find;
 use crate::progress::{CheckProgress, CheckStage};
 use crate::shown_page::{PageOptions, page_shown, view_of};
-use events::{HashKeys, History};
+use crate::text_input::{Kept, NumberedText, read_numbered};
+use events::HashKeys;
+use history::laws::texts_are_read_by_rules;
 use std::alloc::Global;
 use std::io::Read;
 use std::sync::Wait;
 use std::thread::Threads;
-use story::{EventLines, Kept, Story, View, plain_text, refused_story};
+use story::{Story, View, plain_text, refused_story};
 use stream_io::{AnswerText, StreamFault};
 
 /// What a check finds in a text, piece by piece, and what explains it.
@@ -34,27 +40,28 @@ pub struct ExplainedDetails {
     pub page: Option<Vec<u8>>,
 }
 
-// Returns the details of a history, and its explanation.
-fn explained_history<T: Threads + Wait + Sync>(
+// Returns what a check finds in a text that was read so, piece by piece, and its explanation.
+fn text_explained<T: Threads + Wait + Sync>(
     rt: &T,
     alloc: Global,
-    history: History,
-    lines: &EventLines,
+    text: NumberedText,
     options: CheckOptions,
     progress: &CheckProgress,
     view: Option<&View<'_>>,
 ) -> Result<(Details, Story), StreamFault>
     requires workers { AreWorkers options.workers }
-    ensures answer { IfOk result (λ made. (input : List ℕ) → IsHistoryText input history
-        → IsAnswer options.ruling_out options.conflicts input (reported_status made.0.reported) (line_of made.0.reported)) }
-    ensures proved { IfOk result (λ made. (input : List ℕ) → IsHistoryText input history
-        → IsProvedOf options.conflicts input made.0.reported made.0.proved) }
+    requires void { AreLost text.read.history text.read.voids }
+    requires room { room_taken options.reading.writes text.read.history ≤ most_events }
+    ensures report { IfOk result (λ made. IsReportOn options.ruling_out options.reading text.read made.0.reported made.0.proved) }
     ensures reported { IfErr result IsCheckFault }
-    ensures alone { options.workers ≡ 1 → IfErr result (λ fault. fault ≡ StreamFault.NoMemory) }
-    ensures named { IfErr result (HasDocument history) }
+    ensures alone { options.workers ≡ 1 → IfErr result IsReadingFault }
+    ensures named { IfErr result (HasDocument text.read.history) }
 {
-    let (details, finding) = history_details(rt, alloc, history, lines, options, progress)?;
-    let story = story_of(alloc, &finding, lines, view, options.ruling_out)?;
+    let NumberedText { read, mut lines } = text;
+    lines.end_calls(&read.history, read.voids.numbers())?;
+    let found = find(rt, alloc, read, options, progress)?;
+    let details = details_of(alloc, &found, Some(&lines), options.reading)?;
+    let story = story_of(alloc, &found, &lines, view, options)?;
     Ok((details, story))
 }
 
@@ -69,26 +76,27 @@ fn explain<T: Threads + Wait + Sync, R: Read>(
     view: Option<&View<'_>>,
 ) -> Result<(Details, Story), StreamFault>
     requires workers { AreWorkers options.workers }
-    ensures answer { IfOk result (λ made. AnswersInput options.ruling_out options.conflicts (R.remaining reader.old)
+    ensures answer { IfOk result (λ made. AnswersInput options.ruling_out options.reading (R.remaining reader.old)
         (reported_status made.0.reported) (line_of made.0.reported)) }
     ensures proved { IfOk result (λ made. IfSome (R.remaining reader.old)
-        (λ input. IsProvedOf options.conflicts input made.0.reported made.0.proved)) }
+        (λ input. IsProvedOf options.reading input made.0.reported made.0.proved)) }
     ensures reported { IfErr result IsCheckFault }
     ensures alone { options.workers ≡ 1 → IfErr result IsReadingFault }
     ensures named { IfErr result (NamesOwnDocument (R.remaining reader.old)) }
-    ensures taken { TakesHistory (R.remaining reader.old) (R.remaining reader.new) }
+    ensures taken { TakesHistory (rules_of options.reading) (R.remaining reader.old) (R.remaining reader.new) }
 {
+    // That what is read is a text of its history is known from here on.
+    texts_are_read_by_rules();
     progress.reach(CheckStage::Reading);
-    match read_numbered(alloc, keys, reader, Kept::All) {
-        Ok(Ok((history, lines))) => {
+    match read_numbered(alloc, keys, options.reading.rules(), reader, Kept::All)? {
+        Ok(text) => {
             progress.reach(CheckStage::Searching);
-            explained_history(rt, alloc, history, &lines, options, progress, view)
+            text_explained(rt, alloc, text, options, progress, view)
         }
-        Ok(Err(refused)) => {
+        Err(refused) => {
             let story = refused_story(alloc, &refused)?;
             Ok((Details::refused(refused.fault), story))
         }
-        Err(fault) => Err(StreamFault::from(fault)),
     }
 }
 
@@ -108,11 +116,11 @@ pub fn explained_details<T: Threads + Wait + Sync, R: Read>(
     // There are 1 to 16 workers.
     requires workers { AreWorkers options.workers }
     // The line that reports it answers the bytes of the reader, as that of `check_stream` does.
-    ensures answer { IfOk result (λ found. AnswersInput options.ruling_out options.conflicts (R.remaining reader.old)
+    ensures answer { IfOk result (λ found. AnswersInput options.ruling_out options.reading (R.remaining reader.old)
         (reported_status found.details.reported) (line_of found.details.reported)) }
     // What is said to be proved is as `check_details` says.
     ensures proved { IfOk result (λ found. IfSome (R.remaining reader.old)
-        (λ input. IsProvedOf options.conflicts input found.details.reported found.details.proved)) }
+        (λ input. IsProvedOf options.reading input found.details.reported found.details.proved)) }
     // The page is made of markup of the crate `page`, numbers, and escaped texts.
     ensures page { IfOk result (λ found. IfSome found.page (λ page. IsPage page.items)) }
     // The only errors are `Read`, `NoMemory` and `Worker`.
@@ -123,7 +131,7 @@ pub fn explained_details<T: Threads + Wait + Sync, R: Read>(
     ensures named { IfErr result (NamesOwnDocument (R.remaining reader.old)) }
     // No bytes after the first refused line are taken but those that the last read returned, as by
     // `check_stream`.
-    ensures taken { TakesHistory (R.remaining reader.old) (R.remaining reader.new) }
+    ensures taken { TakesHistory (rules_of options.reading) (R.remaining reader.old) (R.remaining reader.new) }
 {
     let view = view_of(&shown);
     let (details, story) = explain(rt, alloc, keys, reader, options, progress, view)?;
@@ -154,7 +162,7 @@ pub fn explained_answer<T: Threads + Wait + Sync, R: Read>(
     requires workers { AreWorkers options.workers }
     // The text of the answer begins with a line that answers the bytes of the reader as the line of
     // `check_stream` does.
-    ensures text { IfOk result (λ made. ExplainsInput options.ruling_out options.conflicts (R.remaining reader.old) made.0.status
+    ensures text { IfOk result (λ made. ExplainsInput options.ruling_out options.reading (R.remaining reader.old) made.0.status
         made.0.text.items) }
     // The page is made of markup of the crate `page`, numbers, and escaped texts.
     ensures page { IfOk result (λ made. IfSome made.1 (λ page. IsPage page.items)) }
@@ -166,7 +174,7 @@ pub fn explained_answer<T: Threads + Wait + Sync, R: Read>(
     ensures named { IfErr result (NamesOwnDocument (R.remaining reader.old)) }
     // No bytes after the first refused line are taken but those that the last read returned, as by
     // `check_stream`.
-    ensures taken { TakesHistory (R.remaining reader.old) (R.remaining reader.new) }
+    ensures taken { TakesHistory (rules_of options.reading) (R.remaining reader.old) (R.remaining reader.new) }
 {
     let found = explained_details(rt, alloc, keys, reader, options, progress, shown)?;
     let reported = &found.details.reported;

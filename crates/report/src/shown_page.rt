@@ -38,7 +38,7 @@ pub fn page_shown(
     };
     let about = About {
         file,
-        conflicts: options.conflicts,
+        reading: options.reading,
         ruling_out: options.ruling_out,
         workers: options.workers,
         view,

@@ -4,21 +4,22 @@ ghost use Rattle.report.specs.Bulk.{AnswersBulk};
 ghost use Rattle.report.specs.Explained.{ExplainsInput};
 ghost use Rattle.report.specs.Verdict.{IsAnswered, IsCutOff, LeavesUnread, VerifiesInputs, WitnessesInput};
 ghost use Rattle.report.specs.Workers.{NamesOwnDocument};
+ghost use Rattle.readings.specs.Reading.{rules_of};
 ghost use Rattle.stream_io.specs.Faults.{IsStreamFault, IsWorkedFault};
 ghost use Rattle.stream_io.specs.Taken.{TakesHistory, TakesWitness};
 ghost use Rattle.stream_io.specs.Written.{HasAnswer, HasPrefix};
 
 use crate::bulk_answer::bulk_answer;
 use crate::check_options::CheckOptions;
-use crate::checked::check_text;
-use crate::details::status_of;
+use crate::details::{check_details, status_of};
 use crate::explained::explained_answer;
 use crate::progress::CheckProgress;
+use crate::text_input::Kept;
 use crate::verify_input::verify_reported;
-use crate::witness_answer::witness_answer;
+use crate::witnessed::witness_answer;
 use compose::RulingOut;
-use doc_register::Conflicts;
 use events::HashKeys;
+use readings::Reading;
 use std::alloc::Global;
 use std::io::{Read, Write};
 use std::sync::Wait;
@@ -55,7 +56,7 @@ pub fn check_stream<T: Threads + Wait + Sync, R: Read, W: Write>(
     reader: &mut R,
     writer: &mut W,
     workers: usize,
-    conflicts: Conflicts,
+    reading: Reading,
     ruling_out: RulingOut,
 ) -> Result<Status, StreamFault>
     // `some_workers`, `few_workers`: There are 1 to 16 workers.
@@ -69,11 +70,11 @@ pub fn check_stream<T: Threads + Wait + Sync, R: Read, W: Write>(
     // and the evidence of the line holds in the history: no order explains it, however its unanswered calls
     // are completed. If it refuses, they are a text of no history, and the line reports the first line that
     // is refused.
-    ensures answered { IfOk result (IsAnswered ruling_out conflicts (R.remaining reader.old)
+    ensures answered { IfOk result (IsAnswered ruling_out reading (R.remaining reader.old)
         (W.contents writer.old) (W.contents writer.new)) }
     // After `Write` the writer holds a prefix of such a line after what it held.
     ensures cut_off { IsErrOf result StreamFault.Write
-        → IsCutOff ruling_out conflicts (R.remaining reader.old) (W.contents writer.old)
+        → IsCutOff ruling_out reading (R.remaining reader.old) (W.contents writer.old)
         (W.contents writer.new) }
     // After any other error the writer holds what it held.
     ensures kept { IfErr result (λ fault. fault ≢ StreamFault.Write
@@ -87,16 +88,17 @@ pub fn check_stream<T: Threads + Wait + Sync, R: Read, W: Write>(
     // Whatever the result, no line after the first refused one is taken of the reader's bytes, if they are
     // known; of that line and those before it at most 4,194,304 times 65,537 bytes; and after it nothing but
     // what the last read returned, 32,768 bytes at most.
-    ensures taken { TakesHistory (R.remaining reader.old) (R.remaining reader.new) }
+    ensures taken { TakesHistory (rules_of reading) (R.remaining reader.old) (R.remaining reader.new) }
 {
     let progress = CheckProgress::new();
     let options = CheckOptions {
         workers,
-        conflicts,
+        reading,
         ruling_out,
     };
-    let found = check_text(rt, alloc, keys, reader, options, &progress)?;
-    write_answer(writer, &found.answer)
+    let found = check_details(rt, alloc, keys, reader, options, &progress, Kept::Nothing)?;
+    let line = found.reported.line(alloc)?;
+    write_answer(writer, &AnswerText::of(status_of(&found.reported), line))
 }
 
 /// Reads a history text to its end and writes the line that `check_stream` writes for it, followed by an
@@ -114,7 +116,7 @@ pub fn explain_stream<T: Threads + Wait + Sync, R: Read, W: Write>(
     reader: &mut R,
     writer: &mut W,
     workers: usize,
-    conflicts: Conflicts,
+    reading: Reading,
     ruling_out: RulingOut,
 ) -> Result<Status, StreamFault>
     // `some_workers`, `few_workers`: There are 1 to 16 workers.
@@ -122,11 +124,11 @@ pub fn explain_stream<T: Threads + Wait + Sync, R: Read, W: Write>(
     requires few_workers { workers ≤ 16 }
     // What it writes begins with a line that answers the bytes of the reader as the line of `check_stream`
     // does.
-    ensures answered { IfOk result (λ status. HasAnswer (ExplainsInput ruling_out conflicts (R.remaining reader.old) status)
+    ensures answered { IfOk result (λ status. HasAnswer (ExplainsInput ruling_out reading (R.remaining reader.old) status)
         (W.contents writer.old) (W.contents writer.new)) }
     // After `Write` the writer holds a prefix of such a text after what it held.
     ensures cut_off { IsErrOf result StreamFault.Write
-        → HasPrefix (ExplainsInput ruling_out conflicts (R.remaining reader.old)) (W.contents writer.old)
+        → HasPrefix (ExplainsInput ruling_out reading (R.remaining reader.old)) (W.contents writer.old)
         (W.contents writer.new) }
     // After any other error the writer holds what it held.
     ensures kept { IfErr result (λ fault. fault ≢ StreamFault.Write
@@ -139,12 +141,12 @@ pub fn explain_stream<T: Threads + Wait + Sync, R: Read, W: Write>(
     ensures named { IfErr result (NamesOwnDocument (R.remaining reader.old)) }
     // No bytes after the first refused line are taken but those that the last read returned, as by
     // `check_stream`.
-    ensures taken { TakesHistory (R.remaining reader.old) (R.remaining reader.new) }
+    ensures taken { TakesHistory (rules_of reading) (R.remaining reader.old) (R.remaining reader.new) }
 {
     let progress = CheckProgress::new();
     let options = CheckOptions {
         workers,
-        conflicts,
+        reading,
         ruling_out,
     };
     let (answer, _) = explained_answer(rt, alloc, keys, reader, options, &progress, None)?;
@@ -161,18 +163,18 @@ pub fn witness_stream<R: Read, W: Write>(
     keys: HashKeys,
     reader: &mut R,
     writer: &mut W,
-    conflicts: Conflicts,
+    reading: Reading,
     ruling_out: RulingOut,
 ) -> Result<Status, StreamFault>
     // If it returns yes, what it wrote reads as entries that cover the history that the bytes are a text of,
     // each document once, so that an order explains it. Otherwise it wrote the line of a check, as
     // `check_stream` does.
-    ensures answered { IfOk result (λ status. HasAnswer (WitnessesInput ruling_out conflicts
+    ensures answered { IfOk result (λ status. HasAnswer (WitnessesInput ruling_out reading
         (R.remaining reader.old) status)
         (W.contents writer.old) (W.contents writer.new)) }
     // After `Write` the writer holds a prefix of such a text after what it held.
     ensures cut_off { IsErrOf result StreamFault.Write
-        → HasPrefix (WitnessesInput ruling_out conflicts (R.remaining reader.old)) (W.contents writer.old)
+        → HasPrefix (WitnessesInput ruling_out reading (R.remaining reader.old)) (W.contents writer.old)
         (W.contents writer.new) }
     // After any other error the writer holds what it held.
     ensures kept { IfErr result (λ fault. fault ≢ StreamFault.Write
@@ -181,9 +183,9 @@ pub fn witness_stream<R: Read, W: Write>(
     ensures reported { IfErr result IsStreamFault }
     // No bytes after the first refused line are taken but those that the last read returned, as by
     // `check_stream`.
-    ensures taken { TakesHistory (R.remaining reader.old) (R.remaining reader.new) }
+    ensures taken { TakesHistory (rules_of reading) (R.remaining reader.old) (R.remaining reader.new) }
 {
-    let answer = witness_answer(alloc, keys, reader, conflicts, ruling_out)?;
+    let answer = witness_answer(alloc, keys, reader, reading, ruling_out)?;
     write_answer(writer, &answer)
 }
 
@@ -203,18 +205,18 @@ pub fn verify_stream<R: Read, Q: Read, W: Write>(
     history: &mut R,
     witness: &mut Q,
     writer: &mut W,
-    conflicts: Conflicts,
+    reading: Reading,
 ) -> Result<Status, StreamFault>
     // If it answers yes, the history's bytes are a text of a history, and the witness's read as entries that
     // cover it, so that an order explains it, with the counts of the line. If it answers no, they read as
     // entries of which the line reports the first fault, so that they do not cover it. A refusal reports the
     // first refused line of the first text that is refused.
-    ensures answered { IfOk result (λ status. HasAnswer (VerifiesInputs conflicts
+    ensures answered { IfOk result (λ status. HasAnswer (VerifiesInputs reading
         (R.remaining history.old) (Q.remaining witness.old) status)
         (W.contents writer.old) (W.contents writer.new)) }
     // After `Write` the writer holds a prefix of such a line after what it held.
     ensures cut_off { IsErrOf result StreamFault.Write
-        → HasPrefix (VerifiesInputs conflicts (R.remaining history.old) (Q.remaining witness.old))
+        → HasPrefix (VerifiesInputs reading (R.remaining history.old) (Q.remaining witness.old))
         (W.contents writer.old) (W.contents writer.new) }
     // After any other error the writer holds what it held.
     ensures kept { IfErr result (λ fault. fault ≢ StreamFault.Write
@@ -223,13 +225,13 @@ pub fn verify_stream<R: Read, Q: Read, W: Write>(
     ensures reported { IfErr result IsStreamFault }
     // No bytes after the first refused line of the history are taken but those that the last read returned,
     // as by `check_stream`.
-    ensures taken { TakesHistory (R.remaining history.old) (R.remaining history.new) }
+    ensures taken { TakesHistory (rules_of reading) (R.remaining history.old) (R.remaining history.new) }
     // The same holds of the witness.
     ensures witness_taken { TakesWitness (Q.remaining witness.old) (Q.remaining witness.new) }
     // Nothing of the witness is taken if the history text is refused.
-    ensures unread { LeavesUnread (R.remaining history.old) (Q.remaining witness.old) (Q.remaining witness.new) }
+    ensures unread { LeavesUnread reading (R.remaining history.old) (Q.remaining witness.old) (Q.remaining witness.new) }
 {
-    let reported = verify_reported(alloc, keys, history, witness, conflicts)?;
+    let reported = verify_reported(alloc, keys, history, witness, reading)?;
     let line = reported.line(alloc)?;
     write_answer(writer, &AnswerText::of(status_of(&reported), line))
 }

@@ -1,18 +1,31 @@
-ghost use Rattle.std.specs.Prelude.{◌≡◌, IfErr, IfOk, ℕ, List};
-ghost use Rattle.history.specs.Text.{IsHistoryText};
+ghost use Rattle.std.specs.Prelude.{◌≡◌, ◌≤◌, IfErr, IfOk, option_map};
+ghost use Rattle.evidence.specs.declared.ruling_out.RulingOut.{RulingOut as Ruling};
+ghost use Rattle.events.specs.Refusal.{most_events};
+ghost use Rattle.history.specs.ByRules.{room_taken};
+ghost use Rattle.history.specs.Laws.{AreLost};
+ghost use Rattle.history.specs.declared.text_read.TextRead.{TextRead as TextOf};
+ghost use Rattle.readings.specs.Reading.{rules_of};
 ghost use Rattle.stream_io.specs.Faults.{IsReadingFault};
 ghost use Rattle.stream_io.specs.Taken.{TakesHistory};
-ghost use Rattle.report.specs.Witnessed.{IsWitnessedBy, WitnessesBy};
+ghost use Rattle.report.specs.Findings.{IsFoundOf};
+ghost use Rattle.report.specs.Verdict.{WitnessesInput};
+ghost use Rattle.report.specs.Witnessed.{WitnessesBy};
+ghost use Rattle.report.specs.aids.Reports.{IsProofOf, IsWitnessedOf};
 
-use crate::details::{Details, case_details};
-use crate::numbered_input::read_numbered;
-use compose::{RulingOut, Verdict, check_alone};
-use doc_register::Conflicts;
-use events::{HashKeys, History};
-use std::alloc::{AllocError, Global};
+use crate::check_options::CheckOptions;
+use crate::details::{Details, details_of, status_of};
+use crate::finding::find_alone;
+use crate::progress::CheckProgress;
+use crate::text_finding::TextFinding;
+use crate::text_input::{Kept, NumberedText, read_numbered};
+use compose::{Finding, Proof, RulingOut};
+use events::HashKeys;
+use history::laws::texts_are_read_by_rules;
+use readings::Reading;
+use std::alloc::Global;
 use std::io::Read;
-use story::{EventLines, Kept};
-use stream_io::StreamFault;
+use story::EventLines;
+use stream_io::{AnswerText, Status, StreamFault};
 use version_pair::NoMemory;
 use witness::write_witness;
 
@@ -25,54 +38,108 @@ pub enum Witnessed {
     Answered(Details),
 }
 
-// Returns the witness of a history, or the details of one for which no order was found.
-fn history_witnessed(
-    alloc: Global,
-    history: History,
-    lines: &EventLines,
-    conflicts: Conflicts,
-    ruling_out: RulingOut,
-) -> Result<Witnessed, NoMemory>
-    ensures { IfOk result (λ found. (input : List ℕ) → IsHistoryText input history
-        → IsWitnessedBy ruling_out conflicts input found) }
+// Returns the proof of a text that is explained: an order explains what was judged, and each get is explained.
+fn proof_of(found: &TextFinding) -> Option<&Proof>
+    ensures { IsProofOf found.now.finding found.now.get (option_map (λ p. p.now) result) }
 {
-    match check_alone(alloc, history, conflicts) {
-        Ok(Verdict::Yes(proof)) => {
-            let text = write_witness(alloc, proof.witnesses())?;
-            Ok(Witnessed::Text(text))
-        }
-        Ok(Verdict::No(case)) => {
-            let (details, _) = case_details(alloc, &case, ruling_out, lines)?;
-            Ok(Witnessed::Answered(details))
-        }
-        Err(_) => Err(AllocError),
+    match (&found.finding, found.get) {
+        (Finding::Explained(proof), None) => Some(proof),
+        (Finding::Explained(_), Some(_)) | (Finding::Unexplained(..), _) => None,
     }
 }
 
+// Returns the witness of a text, or the details of one that is not explained.
+fn witnessed_of(
+    alloc: Global,
+    found: &TextFinding,
+    lines: Option<&EventLines>,
+    reading: Reading,
+) -> Result<Witnessed, NoMemory>
+    ensures { (ruling : Ruling) (read : TextOf) → IsFoundOf ruling reading read found.now
+        → IfOk result (IsWitnessedOf ruling reading read) }
+{
+    match proof_of(found) {
+        Some(proof) => {
+            // That its history is within the limit is known from here on.
+            let _ = proof.history().len();
+            Ok(Witnessed::Text(write_witness(alloc, proof.witnesses())?))
+        }
+        None => Ok(Witnessed::Answered(details_of(alloc, found, lines, reading)?)),
+    }
+}
+
+// Returns the witness of a text that was read so, or what a check finds in it.
+fn text_witnessed(
+    alloc: Global,
+    text: NumberedText,
+    options: CheckOptions,
+) -> Result<Witnessed, NoMemory>
+    requires void { AreLost text.read.history text.read.voids }
+    requires room { room_taken options.reading.writes text.read.history ≤ most_events }
+    ensures { IfOk result (IsWitnessedOf options.ruling_out options.reading text.read) }
+{
+    let NumberedText { read, lines } = text;
+    let found = find_alone(alloc, read, options, &CheckProgress::new())?;
+    witnessed_of(alloc, &found, Some(&lines), options.reading)
+}
+
 /// Returns the witness of the history whose text a reader has; or, if there is none, what the line of
-/// `witness_stream` reports, and what is known beside. It writes nothing.
+/// `witness_stream` reports, and what is known beside. It writes nothing. The caller's thread searches alone, whatever
+/// the number of workers.
 ///
 /// Errors, whichever comes first: `Read` and `NoMemory`.
 pub fn witness_details<R: Read>(
     alloc: Global,
     keys: HashKeys,
     reader: &mut R,
-    conflicts: Conflicts,
-    ruling_out: RulingOut,
+    options: CheckOptions,
+    kept: Kept,
 ) -> Result<Witnessed, StreamFault>
     // The text, or the line that reports it, is one that `witness_stream` promises for the bytes of the reader.
-    ensures answer { IfOk result (WitnessesBy ruling_out conflicts (R.remaining reader.old)) }
+    ensures answer { IfOk result (WitnessesBy options.ruling_out options.reading (R.remaining reader.old)) }
     // The only errors are `Read` and `NoMemory`.
     ensures reported { IfErr result IsReadingFault }
     // No bytes after the first refused line are taken but those that the last read returned, as by
     // `check_stream`.
-    ensures taken { TakesHistory (R.remaining reader.old) (R.remaining reader.new) }
+    ensures taken { TakesHistory (rules_of options.reading) (R.remaining reader.old) (R.remaining reader.new) }
 {
-    match read_numbered(alloc, keys, reader, Kept::Times) {
-        Ok(Ok((history, lines))) => {
-            Ok(history_witnessed(alloc, history, &lines, conflicts, ruling_out)?)
+    // That what is read is a text of its history is known from here on.
+    texts_are_read_by_rules();
+    match read_numbered(alloc, keys, options.reading.rules(), reader, kept)? {
+        Ok(text) => Ok(text_witnessed(alloc, text, options)?),
+        Err(refused) => Ok(Witnessed::Answered(Details::refused(refused.fault))),
+    }
+}
+
+/// Returns the answer of `witness_stream` for the text of a reader: the text of its witness, or the line of a check. It
+/// writes nothing.
+///
+/// Errors, whichever comes first: `Read` and `NoMemory`.
+pub fn witness_answer<R: Read>(
+    alloc: Global,
+    keys: HashKeys,
+    reader: &mut R,
+    reading: Reading,
+    ruling_out: RulingOut,
+) -> Result<AnswerText, StreamFault>
+    ensures text { IfOk result (λ made. WitnessesInput ruling_out reading (R.remaining reader.old) made.status
+        made.text.items) }
+    ensures reported { IfErr result IsReadingFault }
+    ensures taken { TakesHistory (rules_of reading) (R.remaining reader.old) (R.remaining reader.new) }
+{
+    let options = CheckOptions {
+        workers: 1,
+        reading,
+        ruling_out,
+    };
+    match witness_details(alloc, keys, reader, options, Kept::Nothing)? {
+        Witnessed::Text(text) => Ok(AnswerText {
+            status: Status::Yes,
+            text,
+        }),
+        Witnessed::Answered(details) => {
+            let line = details.reported.line(alloc)?;
+            Ok(AnswerText::of(status_of(&details.reported), line))
         }
-        Ok(Err(refused)) => Ok(Witnessed::Answered(Details::refused(refused.fault))),
-        Err(fault) => Err(StreamFault::from(fault)),
     }
 }

@@ -12,16 +12,17 @@ use Rattle.places.specs.declared.broken.Broken.{Broken}
 use Rattle.places.specs.declared.broken.Broken.TheVariants.{Stranger, Twice, Absent, Late, PairMissing, PairGiven, Illegal, NoMemory}
 use Rattle.evidence.specs.declared.refuted.Refuted.{Refuted}
 use Rattle.evidence.specs.declared.refuted.Refuted.TheVariants as evidence
-use Rattle.compose.specs.declared.counts.Counts.{Counts}
 use Rattle.compose.specs.declared.offence.Offence.{Offence}
 use Rattle.compose.specs.declared.verify_fault.VerifyFault.{VerifyFault}
 use Rattle.compose.specs.declared.verify_fault.VerifyFault.TheVariants as fault
 use Rattle.result_lines.specs.Lines.{before_name, cause_name, kind_name}
-use Rattle.result_lines.specs.Objects.{at_fault, broken_members, broken_reply_members, calls_of, counts_of, facts_members, fault_members, line_members, lines_of, milliseconds_member, offence_members, places_members, proved_member, text_member}
+use Rattle.result_lines.specs.Objects.{at_fault, broken_members, broken_reply_members, calls_of, counts_of, facts_members, fault_members, gets_member, line_members, lines_of, milliseconds_member, offence_members, places_members, proved_member, reading_member, reading_of, text_member}
 use Rattle.result_lines.specs.declared.facts.BrokenReply.{BrokenReply}
 use Rattle.result_lines.specs.declared.facts.Facts.{Facts}
 use Rattle.result_lines.specs.declared.reported.Reported.{Reported}
 use Rattle.result_lines.specs.declared.reported.Reported.TheVariants as reported
+use Rattle.result_lines.specs.declared.facts.NamedReading.{NamedReading}
+use Rattle.result_lines.specs.declared.text_counts.TextCounts.{TextCounts}
 
 -- no value of the members has a float
 ArePlain : Members → Type 0
@@ -59,8 +60,14 @@ number_plain k n ms all = with_plain k (number (unsigned n)) ms refl all
 
 -- ---- the members of lines
 
-counts_plain : (c : Counts) → has_float (counts_of c) ≡ false
-counts_plain c = object_of_plain _ (number_plain (codes "left_out") c.left_out _ (number_plain (codes "docs") c.docs _ (number_plain (codes "calls") c.calls no_members none_plain)))
+gets_plain : (gets : Option ℕ) (ms : Members) → ArePlain ms → ArePlain (gets_member gets ms)
+gets_plain None ms all = all
+gets_plain (Some gets) ms all = number_plain (codes "gets") gets ms all
+
+counts_plain : (c : TextCounts) → has_float (counts_of c) ≡ false
+counts_plain c =
+    object_of_plain _ (gets_plain c.gets _
+    (number_plain (codes "left_out") c.left_out _ (number_plain (codes "docs") c.docs _ (number_plain (codes "calls") c.calls no_members none_plain))))
 
 calls_plain : (e : Refuted) → has_float (calls_of e) ≡ false
 calls_plain (evidence.PairTwice a b) = refl
@@ -111,6 +118,9 @@ line_plain (reported.Verified c) = with_plain (codes "counts") (counts_of c) _ (
 line_plain (reported.RefusedHistory f) = fault_plain f _ (text_plain (codes "text") (codes "history") no_members none_plain)
 line_plain (reported.RefusedWitness f) = fault_plain f _ (text_plain (codes "text") (codes "witness") no_members none_plain)
 line_plain (reported.Broken f) = broken_plain f _ (text_plain (codes "answer") (codes "broken") no_members none_plain)
+line_plain (reported.BrokenGet e) =
+    text_plain (codes "cause") (kind_name e) _
+    (with_plain (codes "calls") (calls_of e) _ (calls_plain e) (text_plain (codes "answer") (codes "broken") no_members none_plain))
 
 -- ---- the facts
 
@@ -135,9 +145,18 @@ milliseconds_plain : (n : Option ℕ) (ms : Members) → ArePlain ms → ArePlai
 milliseconds_plain None ms all = all
 milliseconds_plain (Some n) ms all = number_plain (codes "milliseconds") n ms all
 
+reading_of_plain : (r : NamedReading) → has_float (reading_of r) ≡ false
+reading_of_plain r =
+    object_of_plain _ (text_plain (codes "writes") r.writes.now _ (text_plain (codes "gets") r.gets.now _
+    (text_plain (codes "failed") r.failed.now _ (text_plain (codes "conflicts") r.conflicts.now no_members none_plain))))
+
+reading_plain : (r : Option NamedReading) (ms : Members) → ArePlain ms → ArePlain (reading_member r ms)
+reading_plain None ms all = all
+reading_plain (Some r) ms all = with_plain (codes "reading") (reading_of r) ms (reading_of_plain r) all
+
 -- the object that is written has no float
 pub object_plain : (said : Reported) (facts : Facts) → has_float (object (facts_members facts (line_members said no_members))) ≡ false
 object_plain said facts =
-    object_of_plain _ (broken_reply_plain facts.broken_reply _ (proved_plain facts.proved _
+    object_of_plain _ (broken_reply_plain facts.broken_reply _ (reading_plain facts.reading _ (proved_plain facts.proved _
     (given_plain (codes "explanation") (option_map (λ t. t.now) facts.explanation) _ (given_plain (codes "witness") (option_map (λ t. t.now) facts.witness) _
-    (milliseconds_plain facts.milliseconds _ (text_plain (codes "file") facts.file.now _ (line_plain said)))))))
+    (milliseconds_plain facts.milliseconds _ (text_plain (codes "file") facts.file.now _ (line_plain said))))))))

@@ -1,5 +1,5 @@
 -- The lines that are written as answers. Numbers are in decimal, and each line ends with a line feed.
-use Rattle.std.specs.Prelude.{ℕ, Bool, true, false, List, [], ◌++◌, ◌==◌, codes, decimal, if◌then◌else◌}
+use Rattle.std.specs.Prelude.{ℕ, Bool, true, false, List, [], ◌++◌, ◌==◌, Option, Some, None, codes, decimal, if◌then◌else◌}
 use Rattle.api_lines.specs.declared.text_fault.TextCause.{TextCause}
 use Rattle.api_lines.specs.declared.text_fault.TextCause.TheVariants.{Long, Lines, Json, Shape, Id, Range, Half, Stranger, SecondCall, NoCall, Ended, Full, ShardMoved}
 use Rattle.api_lines.specs.declared.bulk_fault.BulkFault.{BulkFault}
@@ -11,6 +11,7 @@ use Rattle.evidence.specs.declared.refuted.Refuted.TheVariants as evidence
 use Rattle.compose.specs.declared.verify_fault.VerifyFault.{VerifyFault}
 use Rattle.compose.specs.declared.verify_fault.VerifyFault.TheVariants as fault
 use Rattle.compose.specs.declared.offence.Offence.{Offence}
+use Rattle.result_lines.specs.declared.text_counts.TextCounts.{TextCounts}
 
 -- the printed name of a cause: `long`, `lines`, `json`, `shape`, `id`, `range`, `half`, `stranger`,
 -- `second-call`, `no-call`, `ended`, `full` or `shard-moved`
@@ -30,12 +31,18 @@ cause_name Ended = codes "ended"
 cause_name Full = codes "full"
 cause_name ShardMoved = codes "shard-moved"
 
--- the line `yes docs=D calls=C left_out=L` of the numbers of documents, of calls, and of calls that are left
--- out
+-- the end of a line with counts: ` gets=G` if gets are judged one by one, G of them, and a line feed
 -- Source: profile.
-abbrev pub yes_line : ℕ → ℕ → ℕ → List ℕ
-yes_line docs calls left_out =
-    codes "yes docs=" ++ (decimal docs ++ (codes " calls=" ++ (decimal calls ++ (codes " left_out=" ++ (decimal left_out ++ codes "\n")))))
+abbrev pub gets_end : Option ℕ → List ℕ
+gets_end None = codes "\n"
+gets_end (Some gets) = codes " gets=" ++ (decimal gets ++ codes "\n")
+
+-- the line `yes docs=D calls=C left_out=L` of the numbers of documents, of calls, and of calls that are left
+-- out, with that of the gets that are judged one by one
+-- Source: profile.
+abbrev pub yes_line : TextCounts → List ℕ
+yes_line c =
+    codes "yes docs=" ++ (decimal c.docs ++ (codes " calls=" ++ (decimal c.calls ++ (codes " left_out=" ++ (decimal c.left_out ++ gets_end c.gets)))))
 
 -- the word `shown` or `unshown`: whether the events before the offence have an order
 -- Source: profile.
@@ -89,9 +96,14 @@ refused_line line cause = codes "refused line=" ++ (decimal line ++ (codes " cau
 
 -- the line `verified docs=D calls=C left_out=L` of the numbers, as in `yes_line`
 -- Source: profile.
-abbrev pub verified_line : ℕ → ℕ → ℕ → List ℕ
-verified_line docs calls left_out =
-    codes "verified docs=" ++ (decimal docs ++ (codes " calls=" ++ (decimal calls ++ (codes " left_out=" ++ (decimal left_out ++ codes "\n")))))
+abbrev pub verified_line : TextCounts → List ℕ
+verified_line c =
+    codes "verified docs=" ++ (decimal c.docs ++ (codes " calls=" ++ (decimal c.calls ++ (codes " left_out=" ++ (decimal c.left_out ++ gets_end c.gets)))))
+
+-- the line `broken cause=K calls=G,W` of evidence that nothing explains a get, which is judged by itself
+-- Source: profile.
+abbrev pub broken_get_line : Refuted → List ℕ
+broken_get_line e = codes "broken cause=" ++ (kind_name e ++ (codes " calls=" ++ (call_numbers e ++ codes "\n")))
 
 -- the line `refused file=F line=L cause=C` of one of two texts, the history's or the witness's
 -- Source: profile.

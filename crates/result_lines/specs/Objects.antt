@@ -1,5 +1,5 @@
 -- The objects of JSON that are written in place of lines. Each ends with a line feed.
-use Rattle.std.specs.Prelude.{◌≡◌, ℕ, Bool, List, ◌++◌, Option, Some, None, codes, option_map, string_bytes}
+use Rattle.std.specs.Prelude.{ℕ, Bool, List, ◌++◌, Option, Some, None, codes, option_map, string_bytes}
 use Rattle.serde_json.specs.Data.{Data, Members, array, boolean, item, no_items, no_members, number, object, put, unsigned}
 use Rattle.serde_json.specs.Written.{compact_text}
 use Rattle.api_lines.specs.Objects.{with_number, with_text}
@@ -8,35 +8,43 @@ use Rattle.places.specs.declared.broken.Broken.{Broken}
 use Rattle.places.specs.declared.broken.Broken.TheVariants.{Stranger, Twice, Absent, Late, PairMissing, PairGiven, Illegal, NoMemory}
 use Rattle.evidence.specs.declared.refuted.Refuted.{Refuted}
 use Rattle.evidence.specs.declared.refuted.Refuted.TheVariants as evidence
-use Rattle.compose.specs.declared.counts.Counts.{Counts}
 use Rattle.compose.specs.declared.offence.Offence.{Offence}
 use Rattle.compose.specs.declared.verify_fault.VerifyFault.{VerifyFault}
 use Rattle.compose.specs.declared.verify_fault.VerifyFault.TheVariants as fault
-use Rattle.result_lines.specs.Lines.{before_name, broken_line, cause_name, kind_name, no_line, refused_file_line, refused_line, refuted_line, verified_line, yes_line}
+use Rattle.result_lines.specs.Lines.{before_name, broken_get_line, broken_line, cause_name, kind_name, no_line, refused_file_line, refused_line, refuted_line, verified_line, yes_line}
 use Rattle.result_lines.specs.declared.facts.BrokenReply.{BrokenReply}
 use Rattle.result_lines.specs.declared.facts.Facts.{Facts}
+use Rattle.result_lines.specs.declared.facts.NamedReading.{NamedReading}
 use Rattle.result_lines.specs.declared.reported.Reported.{Reported}
 use Rattle.result_lines.specs.declared.reported.Reported.TheVariants as reported
+use Rattle.result_lines.specs.declared.text_counts.TextCounts.{TextCounts}
 
 -- the line that reports it
 -- Source: profile.
 abbrev pub line_of : Reported → List ℕ
-line_of (reported.Yes c) = yes_line c.docs c.calls c.left_out
+line_of (reported.Yes c) = yes_line c
 line_of (reported.No o) = no_line o
 line_of (reported.Refuted e o) = refuted_line e o
 line_of (reported.Refused f) = refused_line f.line f.cause
-line_of (reported.Verified c) = verified_line c.docs c.calls c.left_out
+line_of (reported.Verified c) = verified_line c
 line_of (reported.RefusedHistory f) = refused_file_line (codes "history") f.line f.cause
 line_of (reported.RefusedWitness f) = refused_file_line (codes "witness") f.line f.cause
 line_of (reported.Broken f) = broken_line f
+line_of (reported.BrokenGet e) = broken_get_line e
 
 -- ---- the members that are those of the line; each of these adds some to others
 
--- the object of the counts: `calls`, `docs` and `left_out`
+-- `gets`, the number of gets that are judged one by one, if they are
 -- Source: profile.
-abbrev pub counts_of : Counts → Data
+abbrev pub gets_member : Option ℕ → Members → Members
+gets_member None ms = ms
+gets_member (Some gets) ms = with_number (codes "gets") gets ms
+
+-- the object of the counts: `calls`, `docs` and `left_out`, and `gets` if gets are judged one by one
+-- Source: profile.
+abbrev pub counts_of : TextCounts → Data
 counts_of c =
-    object (with_number (codes "left_out") c.left_out (with_number (codes "docs") c.docs (with_number (codes "calls") c.calls no_members)))
+    object (gets_member c.gets (with_number (codes "left_out") c.left_out (with_number (codes "docs") c.docs (with_number (codes "calls") c.calls no_members))))
 
 -- the list of the numbers of two calls
 -- Source: profile.
@@ -107,6 +115,8 @@ line_members (reported.Verified c) ms = put (codes "counts") (counts_of c) (with
 line_members (reported.RefusedHistory f) ms = fault_members f (with_text (codes "text") (codes "history") ms)
 line_members (reported.RefusedWitness f) ms = fault_members f (with_text (codes "text") (codes "witness") ms)
 line_members (reported.Broken f) ms = broken_members f (with_text (codes "answer") (codes "broken") ms)
+line_members (reported.BrokenGet e) ms =
+    with_text (codes "cause") (kind_name e) (put (codes "calls") (calls_of e) (with_text (codes "answer") (codes "broken") ms))
 
 -- ---- the other members
 
@@ -141,14 +151,27 @@ abbrev pub milliseconds_member : Option ℕ → Members → Members
 milliseconds_member None ms = ms
 milliseconds_member (Some n) ms = with_number (codes "milliseconds") n ms
 
+-- the object of a reading: by the name of each option its value
+-- Source: profile.
+abbrev pub reading_of : NamedReading → Data
+reading_of r =
+    object (with_text (codes "writes") r.writes.now (with_text (codes "gets") r.gets.now (with_text (codes "failed") r.failed.now (with_text (codes "conflicts") r.conflicts.now no_members))))
+
+-- `reading`, if one is named
+-- Source: profile.
+abbrev pub reading_member : Option NamedReading → Members → Members
+reading_member None ms = ms
+reading_member (Some r) ms = put (codes "reading") (reading_of r) ms
+
 -- the facts: `file`, and what there is of the others
 -- Source: profile.
 abbrev pub facts_members : Facts → Members → Members
 facts_members f ms =
     broken_reply_members f.broken_reply
+    (reading_member f.reading
     (proved_member f.proved
     (text_member (codes "explanation") (option_map (λ t. t.now) f.explanation)
-    (text_member (codes "witness") (option_map (λ t. t.now) f.witness) (milliseconds_member f.milliseconds (with_text (codes "file") f.file.now ms)))))
+    (text_member (codes "witness") (option_map (λ t. t.now) f.witness) (milliseconds_member f.milliseconds (with_text (codes "file") f.file.now ms))))))
 
 -- the text that is written: the object, and a line feed
 -- Source: profile.

@@ -2,8 +2,9 @@ ghost use Rattle.std.specs.Prelude.{◌≡◌, IfOk, string_bytes};
 ghost use Rattle.result_lines.specs.Lines.{before_name as shown_name, no_line as reported_no, refused_line as reported_refused, yes_line as reported_yes};
 
 use crate::causes::cause_name;
+use crate::text_counts::TextCounts;
 use api_lines::TextFault;
-use compose::{Counts, Offence};
+use compose::Offence;
 use std::alloc::Global;
 use version_pair::NoMemory;
 
@@ -15,16 +16,18 @@ pub fn before_name(before_shown: bool) -> &'static str
 }
 
 /// Returns the line of a history that an order explains.
-pub fn yes_line(alloc: Global, counts: Counts) -> Result<String, NoMemory>
-    ensures { IfOk result (λ line. string_bytes line
-        ≡ reported_yes counts.docs counts.calls counts.left_out) }
+pub fn yes_line(alloc: Global, counts: TextCounts) -> Result<String, NoMemory>
+    ensures { IfOk result (λ line. string_bytes line ≡ reported_yes counts) }
 {
-    let Counts {
+    let TextCounts {
         docs,
         calls,
         left_out,
+        ..
     } = counts;
-    format!(in alloc; "yes docs={docs} calls={calls} left_out={left_out}\n")
+    let end = counts.gets_end(alloc)?;
+    let end = end.as_str();
+    format!(in alloc; "yes docs={docs} calls={calls} left_out={left_out}{end}")
 }
 
 /// Returns the line of a history for which no order was found. It reports the reply at which the search first

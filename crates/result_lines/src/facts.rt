@@ -15,6 +15,19 @@ pub struct BrokenReply {
     pub time: Option<String>,
 }
 
+/// A reading of histories, by the values of its options.
+#[derive(Clone, Copy, Debug, PartialEq, Eq)]
+pub struct NamedReading {
+    /// What a reply to a get shows: that of `--gets`.
+    pub gets: &'static str,
+    /// What the status conflict shows: that of `--conflicts`.
+    pub conflicts: &'static str,
+    /// How often a write is performed: that of `--writes`.
+    pub writes: &'static str,
+    /// What lost lines may say: that of `--failed`.
+    pub failed: &'static str,
+}
+
 /// What an object says beside what its line reports.
 #[derive(Debug, Drop)]
 pub struct Facts<'a> {
@@ -24,6 +37,8 @@ pub struct Facts<'a> {
     pub witness: Option<&'a str>,
     /// Whether it is proved that an order explains the history, or that none does, if one of these is answered.
     pub proved: Option<bool>,
+    /// The reading of the history, if it is named.
+    pub reading: Option<NamedReading>,
     /// Where the search first fails, if it does.
     pub broken_reply: Option<BrokenReply>,
     /// What explains the answer, if that is asked for.

@@ -15,13 +15,15 @@ mod members;
 mod objects;
 mod refuted;
 mod reported;
+mod text_counts;
 mod verified;
 
 pub use broken::broken_line;
 pub use bulk::bulk_fault_line;
 pub use checked::{no_line, refused_line, yes_line};
-pub use facts::{BrokenReply, Facts};
+pub use facts::{BrokenReply, Facts, NamedReading};
 pub use objects::object_line;
 pub use refuted::refuted_line;
 pub use reported::Reported;
+pub use text_counts::TextCounts;
 pub use verified::{refused_history_line, refused_witness_line, verified_line};

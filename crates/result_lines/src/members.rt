@@ -3,33 +3,46 @@
 ghost use Rattle.std.specs.Prelude.{◌≡◌, IfOk};
 ghost use Rattle.serde_json.specs.View.{view};
 ghost use Rattle.api_lines.specs.Objects.{members_of};
-ghost use Rattle.result_lines.specs.Objects.{at_fault as members_at_fault, both_calls, broken_members as members_of_broken, calls_of as calls_by, counts_of as counts_by, fault_members as members_of_fault, line_members as members_of_line, offence_members as members_of_offence, places_members as members_of_places};
+ghost use Rattle.result_lines.specs.Objects.{at_fault as members_at_fault, both_calls, broken_members as members_of_broken, calls_of as calls_by, counts_of as counts_by, fault_members as members_of_fault, gets_member as members_of_gets, line_members as members_of_line, offence_members as members_of_offence, places_members as members_of_places};
 
 use crate::causes::cause_name;
 use crate::checked::before_name;
 use crate::refuted::kind_name;
 use crate::reported::Reported;
+use crate::text_counts::TextCounts;
 use api_lines::{LineObject, TextFault};
-use compose::{Counts, Offence, Refuted, VerifyFault};
+use compose::{Offence, Refuted, VerifyFault};
 use places::Broken;
 use serde_json::{Value, json};
 use std::alloc::{AllocError, Global};
 use version_pair::NoMemory;
 
 // Returns the counts as an object.
-fn counts_value(alloc: Global, counts: Counts) -> Result<Value, NoMemory>
+fn counts_value(alloc: Global, counts: TextCounts) -> Result<Value, NoMemory>
     ensures { IfOk result (λ value. view value ≡ counts_by counts) }
 {
-    let Counts {
+    let TextCounts {
         docs,
         calls,
         left_out,
+        gets,
     } = counts;
     let object = LineObject::new(alloc)
         .number("calls", calls as u64)?
         .number("docs", docs as u64)?
         .number("left_out", left_out as u64)?;
+    let object = with_gets(object, gets)?;
     Ok(object.into_value())
+}
+
+// Returns the object with the number of gets that are judged one by one, if they are.
+fn with_gets(object: LineObject, gets: Option<usize>) -> Result<LineObject, NoMemory>
+    ensures { IfOk result (λ made. members_of made ≡ members_of_gets gets (members_of object)) }
+{
+    match gets {
+        Some(gets) => object.number("gets", gets as u64),
+        None => Ok(object),
+    }
 }
 
 // Returns the numbers of two calls as a list.
@@ -154,5 +167,9 @@ pub fn with_reported(
         Reported::RefusedHistory(fault) => with_fault(object.text("text", "history")?, fault),
         Reported::RefusedWitness(fault) => with_fault(object.text("text", "witness")?, fault),
         Reported::Broken(fault) => with_broken(object.text("answer", "broken")?, fault),
+        Reported::BrokenGet(evidence) => object
+            .text("answer", "broken")?
+            .with("calls", calls_value(alloc, evidence)?)?
+            .text("cause", kind_name(evidence)),
     }
 }

@@ -3,9 +3,9 @@
 ghost use Rattle.std.specs.Prelude.{◌≡◌, IfOk, codes, option_map, string_bytes};
 ghost use Rattle.serde_json.specs.View.{view};
 ghost use Rattle.api_lines.specs.Objects.{members_of};
-ghost use Rattle.result_lines.specs.Objects.{broken_reply_members, facts_members, lines_of, milliseconds_member, object_text, proved_member, text_member};
+ghost use Rattle.result_lines.specs.Objects.{broken_reply_members, facts_members, lines_of, milliseconds_member, object_text, proved_member, reading_member, reading_of, text_member};
 
-use crate::facts::{BrokenReply, Facts};
+use crate::facts::{BrokenReply, Facts, NamedReading};
 use crate::members::with_reported;
 use crate::reported::Reported;
 use api_lines::LineObject;
@@ -73,6 +73,32 @@ fn with_proved(object: LineObject, proved: Option<bool>) -> Result<LineObject, N
     }
 }
 
+// Returns the reading as an object.
+fn reading_value(alloc: Global, reading: NamedReading) -> Result<Value, NoMemory>
+    ensures { IfOk result (λ value. view value ≡ reading_of reading) }
+{
+    let object = LineObject::new(alloc)
+        .text("conflicts", reading.conflicts)?
+        .text("failed", reading.failed)?
+        .text("gets", reading.gets)?
+        .text("writes", reading.writes)?;
+    Ok(object.into_value())
+}
+
+// Returns the object with the reading, if one is named.
+fn with_reading(
+    alloc: Global,
+    object: LineObject,
+    reading: Option<NamedReading>,
+) -> Result<LineObject, NoMemory>
+    ensures { IfOk result (λ made. members_of made ≡ reading_member reading (members_of object)) }
+{
+    match reading {
+        Some(reading) => object.with("reading", reading_value(alloc, reading)?),
+        None => Ok(object),
+    }
+}
+
 // Returns the object with how long the answer took, if that is known.
 fn with_milliseconds(object: LineObject, milliseconds: Option<u64>) -> Result<LineObject, NoMemory>
     ensures { IfOk result (λ made. members_of made ≡ milliseconds_member milliseconds (members_of object)) }
@@ -92,6 +118,7 @@ fn with_facts(alloc: Global, object: LineObject, facts: &Facts<'_>) -> Result<Li
     let object = with_text(object, "witness", facts.witness)?;
     let object = with_text(object, "explanation", facts.explanation)?;
     let object = with_proved(object, facts.proved)?;
+    let object = with_reading(alloc, object, facts.reading)?;
     with_broken_reply(alloc, object, &facts.broken_reply)
 }
 

@@ -1,5 +1,5 @@
 ghost use Rattle.std.specs.Prelude.{◌≡◌, IfOk, string_bytes};
-ghost use Rattle.result_lines.specs.Lines.{both_numbers, kind_name as reported_kind, call_numbers as reported_calls, refuted_line as reported_line};
+ghost use Rattle.result_lines.specs.Lines.{both_numbers, broken_get_line as reported_broken, kind_name as reported_kind, call_numbers as reported_calls, refuted_line as reported_line};
 
 use crate::checked::before_name;
 use compose::{Offence, Refuted};
@@ -58,4 +58,14 @@ pub fn refuted_line(alloc: Global, evidence: Refuted, offence: Offence) -> Resul
     format!(in alloc;
         "refuted kind={kind} calls={calls} event={event} call={call} before={before}\n"
     )
+}
+
+/// Returns the line of a witness that covers its history, if nothing explains a get, which is judged by itself.
+pub fn broken_get_line(alloc: Global, evidence: Refuted) -> Result<String, NoMemory>
+    ensures { IfOk result (λ line. string_bytes line ≡ reported_broken evidence) }
+{
+    let kind = kind_name(evidence);
+    let calls = call_numbers(alloc, evidence)?;
+    let calls = calls.as_str();
+    format!(in alloc; "broken cause={kind} calls={calls}\n")
 }

@@ -3,10 +3,11 @@ ghost use Rattle.result_lines.specs.Objects.{line_of};
 
 use crate::broken::broken_line;
 use crate::checked::{no_line, refused_line, yes_line};
-use crate::refuted::refuted_line;
+use crate::refuted::{broken_get_line, refuted_line};
+use crate::text_counts::TextCounts;
 use crate::verified::{refused_history_line, refused_witness_line, verified_line};
 use api_lines::TextFault;
-use compose::{Counts, Offence, Refuted, VerifyFault};
+use compose::{Offence, Refuted, VerifyFault};
 use std::alloc::Global;
 use version_pair::NoMemory;
 
@@ -14,7 +15,7 @@ use version_pair::NoMemory;
 #[derive(Clone, Copy, Debug, PartialEq, Eq)]
 pub enum Reported {
     /// An order explains the history, with these counts.
-    Yes(Counts),
+    Yes(TextCounts),
     /// No order was found; the search first fails at this reply.
     No(Offence),
     /// There is evidence that no order explains the history; the search first fails at this reply.
@@ -22,13 +23,15 @@ pub enum Reported {
     /// The text is no history text.
     Refused(TextFault),
     /// The witness covers the history, with these counts.
-    Verified(Counts),
+    Verified(TextCounts),
     /// Of a history text and a witness text the first is no history text.
     RefusedHistory(TextFault),
     /// The second is no witness text.
     RefusedWitness(TextFault),
     /// The witness doesn't cover the history.
     Broken(VerifyFault),
+    /// The witness covers the history, and nothing explains a get, which is judged by itself.
+    BrokenGet(Refuted),
 }
 
 impl Reported {
@@ -46,6 +49,7 @@ impl Reported {
             Reported::RefusedHistory(fault) => refused_history_line(alloc, fault),
             Reported::RefusedWitness(fault) => refused_witness_line(alloc, fault),
             Reported::Broken(fault) => broken_line(alloc, fault),
+            Reported::BrokenGet(evidence) => broken_get_line(alloc, evidence),
         }
     }
 }

@@ -2,22 +2,24 @@ ghost use Rattle.std.specs.Prelude.{◌≡◌, IfOk, codes, string_bytes};
 ghost use Rattle.result_lines.specs.Lines.{refused_file_line, verified_line as reported_line};
 
 use crate::causes::cause_name;
+use crate::text_counts::TextCounts;
 use api_lines::TextFault;
-use compose::Counts;
 use std::alloc::Global;
 use version_pair::NoMemory;
 
 /// Returns the line of a witness that covers its history.
-pub fn verified_line(alloc: Global, counts: Counts) -> Result<String, NoMemory>
-    ensures { IfOk result (λ line. string_bytes line
-        ≡ reported_line counts.docs counts.calls counts.left_out) }
+pub fn verified_line(alloc: Global, counts: TextCounts) -> Result<String, NoMemory>
+    ensures { IfOk result (λ line. string_bytes line ≡ reported_line counts) }
 {
-    let Counts {
+    let TextCounts {
         docs,
         calls,
         left_out,
+        ..
     } = counts;
-    format!(in alloc; "verified docs={docs} calls={calls} left_out={left_out}\n")
+    let end = counts.gets_end(alloc)?;
+    let end = end.as_str();
+    format!(in alloc; "verified docs={docs} calls={calls} left_out={left_out}{end}")
 }
 
 /// Returns the line of a history text that is refused, for commands that read two texts.

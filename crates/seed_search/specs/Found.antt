@@ -2,11 +2,11 @@
 use Rattle.std.specs.Prelude.{◌≡◌, ◌≢◌, ℕ, ◌+◌, ◌<◌, ◌≤◌, List, Option}
 use Rattle.std.specs.Io.KnownBytes.{Keeps}
 use Rattle.doc_register.specs.declared.op.Op.{Op}
-use Rattle.doc_register.specs.declared.state.Conflicts.TheVariants.{Plain}
 use Rattle.evidence.specs.declared.ruling_out.RulingOut.TheVariants.{On}
 use Rattle.disturbances.specs.declared.disturbance.Disturbance.{Disturbance}
 use Rattle.recorded_runs.specs.Runs.{IsRunText, IsTextInTurns}
 use Rattle.recorded_runs.specs.declared.run_setting.RunSetting.{RunSetting}
+use Rattle.readings.specs.Reading.{strict_reading}
 use Rattle.report.specs.Verdict.{IsAnswer}
 use Rattle.stream_io.specs.Written.{HasAnswer}
 use Rattle.stream_io.specs.declared.status.Status.{Status}
@@ -20,15 +20,15 @@ with_seed setting seed = record setting { seed = seed }
 
 -- What the target issued tickets for, and what it gave when they were polled; and how the group is disturbed.
 module _ (issued : Ticket → List ℕ → Op → Type 0) (gave : Ticket → Progress → Type 0) (disturbance : Disturbance) where
-  -- The text is that of the run of the setting in turns, and the line answers it, with conflicts read plain
-  -- and documents checked for being ruled out.
+  -- The text is that of the run of the setting in turns, and the line answers it, by the strict reading
+  -- and with documents checked for being ruled out.
   pub record IsJudgedRun (setting : RunSetting) (text : List ℕ) (status : Status) (line : List ℕ) : Type 0 where
     -- the lists of the run are runs of its clients (`IsRunText`)
     pub is_run : IsRunText issued gave setting text
     -- the text is that of the run in turns, under the disturbance (`IsTextInTurns`)
     pub in_turns : IsTextInTurns setting disturbance text
     -- the line answers it (`IsAnswer`)
-    pub answer : IsAnswer On Plain text status line
+    pub answer : IsAnswer On strict_reading text status line
 
   -- the run of the setting in turns gets `yes`: an order explains it
   abbrev pub IsCleared : RunSetting → Type 0

@@ -7,10 +7,9 @@ ghost use Rattle.seed_search.specs.Found.{AreCleared, IsCleared, IsFoundRun, IsF
 use crate::found_run::FoundRun;
 use crate::watch::Watch;
 use disturbances::{Disturbance, DisturbedGroup};
-use doc_register::Conflicts;
 use history::write;
 use recorded_runs::{Manner, Playing, RunSetting, Seeds, run_history};
-use report::{CheckOptions, CheckProgress, RulingOut, history_answer};
+use report::{RulingOut, history_answer};
 use std::alloc::Global;
 use std::io::Write;
 use std::sync::Wait;
@@ -40,13 +39,7 @@ fn judged_run<T: Threads + Wait + Sync>(
     };
     let history = run_history(rt, alloc, setting, &manner)?;
     let text = write(alloc, &history)?;
-    let progress = CheckProgress::new();
-    let options = CheckOptions {
-        workers: 1,
-        conflicts: Conflicts::Plain,
-        ruling_out: RulingOut::On,
-    };
-    let (answer, _) = history_answer(rt, alloc, history, options, &progress)?;
+    let answer = history_answer(alloc, history, RulingOut::On)?;
     Ok(FoundRun {
         seed: setting.seed,
         text,

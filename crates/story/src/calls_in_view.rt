@@ -1,6 +1,6 @@
 use events::Rec;
 use story_blocks::{Draft, View};
-use story_reasons::{Call, end_of};
+use story_reasons::Call;
 use version_pair::{DocId, NoMemory};
 
 // The greatest number of calls that a timeline shows.
@@ -9,7 +9,7 @@ const MOST_CALLS: usize = 400;
 // Whether the timeline is to show the call.
 fn is_in_view(draft: &Draft<'_>, view: &View<'_>, record: &Rec) -> bool {
     let start = draft.lines.number(record.call_at);
-    let end = draft.lines.number(end_of(record));
+    let end = draft.lines.number(draft.lines.end_of(record));
     start <= view.last && view.first <= end
 }
 

@@ -7,19 +7,24 @@ use story_blocks::Word::{Id, Number, Text};
 use story_blocks::{Draft, EventLines, HistoryCounts, Story, View};
 use story_drawings::{Kept, MOST_DESCRIBED, Named};
 use story_reasons::{
-    Call, Diagnosis, OrderBefore, OrderExtent, OrderSearch, Subject, Subjects, Unexplained,
-    call_of, diagnosis_of, order_before,
+    Call, Diagnosis, OrderBefore, OrderExtent, OrderSearch, Subjects, call_of, diagnosis_of,
+    order_before,
 };
-use story_words::{add_advice, add_damage, add_decision, add_headline, add_why, certainty_words};
+use story_words::{
+    add_advice, add_damage, add_decision, add_headline, add_profile, add_why, certainty_words,
+};
 use version_pair::NoMemory;
 
 // Adds the document of the offence, and the reply at which the search first fails.
-fn add_offence(draft: &mut Draft<'_>, unexplained: &Unexplained<'_>, call: &Call<'_>) {
+fn add_offence(draft: &mut Draft<'_>, explained: &Subjects<'_>, call: &Call<'_>) {
+    let unexplained = &explained.unexplained;
     draft.paragraph(
         "The document: {} on shard {}.",
         &[Id(call.id), Number(call.shard as u64)],
     );
-    let before = if unexplained.before_shown {
+    let before = if explained.account.is_alone(&call.record) {
+        "This get is judged by itself: any copy may have answered it, but none that is in sync answers so."
+    } else if unexplained.before_shown {
         "The events before this reply have an order; with it, none was found."
     } else {
         "No order was found for the events before this reply either."
@@ -35,38 +40,31 @@ fn add_offence(draft: &mut Draft<'_>, unexplained: &Unexplained<'_>, call: &Call
 }
 
 // Adds how much the answer says, and of which reply.
-fn add_answer(draft: &mut Draft<'_>, unexplained: &Unexplained<'_>, subjects: &[Subject<'_>]) {
+fn add_answer(draft: &mut Draft<'_>, explained: &Subjects<'_>) {
+    let unexplained = &explained.unexplained;
     let certainty = unexplained.certainty;
     draft.paragraph(certainty_words(certainty), &[]);
-    if let (Certainty::Undecided, Some(subject)) = (certainty, subjects.first()) {
+    if let (Certainty::Undecided, Some(subject)) = (certainty, explained.list.first()) {
         add_decision(draft, unexplained, subject);
     }
     if let Some(call) = call_of(unexplained.history, unexplained.call) {
-        add_offence(draft, unexplained, &call);
+        add_offence(draft, explained, &call);
     }
 }
 
 // Returns an order of the calls of the first document before the broken reply, if one is found.
 fn order_of<S: OrderSearch>(
     alloc: Global,
-    unexplained: &Unexplained<'_>,
+    explained: &Subjects<'_>,
     search: &S,
-    subjects: &[Subject<'_>],
 ) -> Result<Option<OrderBefore>, NoMemory> {
-    match subjects.first() {
-        Some(subject) if unexplained.before_shown => {
+    match explained.list.first() {
+        Some(subject) if explained.unexplained.before_shown => {
             let extent = OrderExtent {
                 least: MOST_DESCRIBED,
                 most: MOST_DESCRIBED,
             };
-            order_before(
-                alloc,
-                unexplained,
-                search,
-                subject.id,
-                &subject.records,
-                extent,
-            )
+            order_before(alloc, explained, search, subject.id, extent)
         }
         _ => Ok(None),
     }
@@ -97,11 +95,11 @@ fn add_findings<S: OrderSearch>(
     search: &S,
 ) -> Result<String, NoMemory> {
     let unexplained = &explained.unexplained;
-    let subjects = explained.list.as_slice();
-    let title = add_headline(draft, unexplained, found);
-    add_answer(draft, unexplained, subjects);
-    add_why(draft, unexplained, subjects, search)?;
-    add_damage(draft, unexplained, subjects)?;
+    let title = add_headline(draft, explained, found);
+    add_answer(draft, explained);
+    add_why(draft, explained, search)?;
+    add_damage(draft, explained)?;
+    add_profile(draft, explained, search)?;
     Ok(title)
 }
 
@@ -114,8 +112,8 @@ fn add_calls<S: OrderSearch>(
 ) -> Result<(), NoMemory> {
     let unexplained = &explained.unexplained;
     let subjects = explained.list.as_slice();
-    let order = order_of(draft.alloc, unexplained, search, subjects)?;
-    let kept = Kept::of(draft.alloc, subjects, named)?;
+    let order = order_of(draft.alloc, explained, search)?;
+    let kept = Kept::of(draft.alloc, draft.lines, subjects, named)?;
     let shown = ShownCalls {
         subjects,
         kept: &kept,
@@ -142,8 +140,8 @@ pub fn failing_story<S: OrderSearch>(
     let named = Named::of(alloc, unexplained, subjects)?;
     let mut draft = Draft::new(alloc, lines);
     let title = add_findings(&mut draft, explained, found, search)?;
-    add_failing_timeline(&mut draft, unexplained, search, &named, view)?;
-    add_advice(&mut draft, unexplained, subjects, found)?;
+    add_failing_timeline(&mut draft, explained, search, &named, view)?;
+    add_advice(&mut draft, explained, found)?;
     add_calls(&mut draft, explained, &named, search)?;
     draft.finish(title, Some(counts_of(unexplained.whole)))
 }

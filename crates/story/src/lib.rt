@@ -2,7 +2,7 @@
 //! sentences. A page consists of the bytes of pieces, so each id in it is escaped.
 //!
 //! ```text
-//! let subjects = Subjects::of(alloc, &unexplained)?;
+//! let subjects = Subjects::of(alloc, &account)?;
 //! let story = failing_story(alloc, &subjects, &lines, &search, None)?;
 //! let text = plain_text(alloc, &story)?;
 //! let page = page_of(alloc, line, &story, &about)?;
@@ -14,14 +14,13 @@ mod describing;
 mod failing;
 mod line_key;
 mod line_time;
-mod numbered_input;
 mod refused;
 mod shown_calls;
 mod timeline;
 
 pub use describing::{explained_story, refused_story};
 pub use failing::failing_story;
+pub use line_key::LineKey;
 pub use line_time::{time_text, written_at};
-pub use numbered_input::{Kept, read_numbered_from};
 pub use story_blocks::{About, EventLines, Story, View, page_of, plain_text};
-pub use story_reasons::{Explained, OrderSearch, Subjects, Unexplained};
+pub use story_reasons::{Account, Explained, OrderSearch, Subjects, Unexplained};

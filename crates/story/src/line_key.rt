@@ -24,6 +24,16 @@ fn value_of(alloc: Global, line: &[u8]) -> Result<Option<Value>, NoMemory> {
     }
 }
 
+// Returns the number that these bytes begin with, if its member ends behind it.
+fn leading_number(bytes: &[u8]) -> Option<i64> {
+    let end = bytes.iter().position(|byte| !byte.is_ascii_digit())?;
+    if !matches!(bytes.get(end), Some(b',' | b'}')) {
+        return None;
+    }
+    let digits = str::from_utf8(bytes.get(..end)?).ok()?;
+    digits.parse::<i64>().ok()
+}
+
 impl LineKey {
     /// Returns the key under which a line says when it was written.
     pub fn time() -> LineKey {
@@ -52,6 +62,24 @@ impl LineKey {
         }
     }
 
+    /// Returns the key under which a line has the HTTP status of a reply.
+    pub fn status() -> LineKey {
+        LineKey {
+            name: "status",
+            quoted: Finder::new(b"\"status\""),
+            begin: b",\"status\":",
+        }
+    }
+
+    /// Returns the key under which a lost line says whether nothing was performed.
+    pub fn void() -> LineKey {
+        LineKey {
+            name: "void",
+            quoted: Finder::new(b"\"void\""),
+            begin: b",\"void\":",
+        }
+    }
+
     /// Returns whether the line may have the member.
     pub fn may_be_in(&self, line: &[u8]) -> bool {
         self.quoted.find(line).is_some()
@@ -66,6 +94,19 @@ impl LineKey {
             return None;
         }
         line.get(place.saturating_add(self.begin.len())..)
+    }
+
+    // Returns the number that the member is where it stands first, if it surely is one of the line's own object there.
+    fn first_number(&self, line: &[u8]) -> Option<i64> {
+        let place = self.quoted.find(line)?;
+        let before = line.get(1..place)?;
+        if memchr(b'{', before).is_some() || memchr(b'[', before).is_some() {
+            return None;
+        }
+        let rest = line.get(place..)?;
+        // What the member begins with but for the comma.
+        let rest = rest.strip_prefix(self.begin.get(1..)?)?;
+        leading_number(rest)
     }
 
     // Returns the number that the member is, if the line ends with it: then it surely is one of the line's own object.
@@ -83,13 +124,7 @@ impl LineKey {
 
     // Returns the number that the member is, if it can be read without the line's value.
     fn plain_number(&self, line: &[u8]) -> Option<i64> {
-        let rest = self.own_member(line)?;
-        let end = rest.iter().position(|byte| !byte.is_ascii_digit())?;
-        if !matches!(rest.get(end), Some(b',' | b'}')) {
-            return None;
-        }
-        let digits = str::from_utf8(rest.get(..end)?).ok()?;
-        digits.parse::<i64>().ok()
+        leading_number(self.own_member(line)?)
     }
 
     /// Returns the text that the member is, if it can be read without the line's value.
@@ -113,6 +148,15 @@ impl LineKey {
         match member.and_then(|it| it.as_str()) {
             Some(text) => String::from_str(alloc, text),
             None => Ok(String::new(alloc)),
+        }
+    }
+
+    /// Returns the number that the member is, of several the first one; `None` if the line has none, or one that is
+    /// no integer.
+    pub fn number_in_front(&self, alloc: Global, line: &[u8]) -> Result<Option<i64>, NoMemory> {
+        match self.first_number(line) {
+            Some(number) => Ok(Some(number)),
+            None => self.number(alloc, line),
         }
     }
 

@@ -122,12 +122,18 @@ impl<'h> ShownCalls<'_, 'h> {
         if self.kept.unanswered.is_empty() {
             return;
         }
-        draft.heading("Writes without a reply, which may or may not have happened");
+        draft.heading(if self.kept.has_replies {
+            "Writes of unknown outcome, which may or may not have happened"
+        } else {
+            "Writes without a reply, which may or may not have happened"
+        });
         for call in self.kept.unanswered.iter() {
-            draft.item(
-                "line {0.called}, call {0.no} of {1}: {0.asked}",
-                &[draft.call(&call.record), Id(call.id)],
-            );
+            let template = match draft.lines.lost(&call.record) {
+                Some(_) =>
+                    "line {0.called}, call {0.no} of {1}: {0.asked} -> line {0.replied}: {0.reply}",
+                None => "line {0.called}, call {0.no} of {1}: {0.asked}",
+            };
+            draft.item(template, &[draft.call(&call.record), Id(call.id)]);
         }
         draft.end_list(self.kept.unanswered_count, "Left out: {}.");
     }
@@ -158,7 +164,8 @@ impl<'h> ShownCalls<'_, 'h> {
     /// Adds the calls: first those that matter most, listed and drawn, then the rest, folded away.
     pub fn add(&self, draft: &mut Draft<'_>) -> Result<(), NoMemory> {
         let calls = self.kept.calls.as_slice();
-        let first = self.named.first(draft.alloc, calls, MOST_FIRST)?;
+        let lines = draft.lines;
+        let first = self.named.first(draft.alloc, lines, calls, MOST_FIRST)?;
         // At least 28, since the first are no more than 12.
         let most = MOST_DESCRIBED.saturating_sub(first.len());
         let rest = rest_of(draft.alloc, calls, &first, most)?;

@@ -6,7 +6,7 @@ use story_blocks::Word::{Count, Id, Number, Shown, Text};
 use story_blocks::{Block, Draft, View};
 use story_drawings::{DrawingKind, Drawn, Named, drawing_of};
 use story_reasons::{
-    Call, OrderBefore, OrderExtent, OrderSearch, Unexplained, end_of, order_before,
+    Call, Explained, OrderBefore, OrderExtent, OrderSearch, Subjects, order_before,
     order_of_witness,
 };
 use version_pair::{DocId, NoMemory};
@@ -49,7 +49,7 @@ fn add_unknown_document(draft: &mut Draft<'_>, view: &View<'_>) {
 fn add_shown(draft: &mut Draft<'_>, viewed: Viewed<'_, '_>, order: &Option<OrderBefore>) {
     let mut last = 0usize;
     for call in viewed.calls {
-        last = last.max(end_of(&call.record));
+        last = last.max(draft.lines.end_of(&call.record));
     }
     let first = first_event(viewed.calls);
     let effect = match order {
@@ -153,24 +153,30 @@ fn witness_of<'w>(witnesses: &'w [DocWitness], id: &str) -> Option<&'w DocWitnes
 /// Adds the timeline of a document of a history that an order explains.
 pub fn add_explained_timeline(
     draft: &mut Draft<'_>,
-    witnesses: &[DocWitness],
+    explained: &Explained<'_>,
     view: Option<&View<'_>>,
 ) -> Result<(), NoMemory> {
     let Some(view) = view else {
         return Ok(());
     };
     draft.heading("A timeline of the document");
-    let Some(witness) = witness_of(witnesses, view.document) else {
+    let text = explained.text;
+    let witness = witness_of(explained.witnesses, view.document);
+    let (Some(witness), Some(doc)) = (witness, document_of(text, view.document)) else {
         add_unknown_document(draft, view);
         return Ok(());
     };
-    let calls = calls_in_view(draft, view, witness.id(), witness.records(), None)?;
+    if doc >= text.docs() {
+        return Ok(());
+    }
+    let records = text.records(doc)?;
+    let calls = calls_in_view(draft, view, witness.id(), &records, None)?;
     let viewed = Viewed {
         id: witness.id(),
-        records: witness.records(),
+        records: records.as_slice(),
         calls: calls.as_slice(),
     };
-    let order = order_of_witness(draft.alloc, witness)?;
+    let order = order_of_witness(draft.alloc, explained, witness)?;
     add_viewed(draft, viewed, Some(order), None, None)
 }
 
@@ -188,10 +194,11 @@ fn document_of(history: &History, id: &str) -> Option<usize> {
 // if one is found.
 fn order_in_view<S: OrderSearch>(
     alloc: Global,
-    unexplained: &Unexplained<'_>,
+    subjects: &Subjects<'_>,
     search: &S,
     viewed: Viewed<'_, '_>,
 ) -> Result<Option<OrderBefore>, NoMemory> {
+    let unexplained = &subjects.unexplained;
     let first = first_event(viewed.calls);
     if !unexplained.before_shown || first >= unexplained.event {
         return Ok(None);
@@ -203,41 +210,34 @@ fn order_in_view<S: OrderSearch>(
         least: viewed.records.len() - before,
         most: usize::MAX,
     };
-    order_before(
-        alloc,
-        unexplained,
-        search,
-        viewed.id,
-        viewed.records,
-        extent,
-    )
+    order_before(alloc, subjects, search, viewed.id, extent)
 }
 
 // Adds the timeline of the document of this number, with these calls.
 fn add_timeline_of<S: OrderSearch>(
     draft: &mut Draft<'_>,
-    unexplained: &Unexplained<'_>,
+    subjects: &Subjects<'_>,
     search: &S,
     named: &Named,
     view: &View<'_>,
     document: Document<'_, '_>,
 ) -> Result<(), NoMemory> {
     let Document { id, records } = document;
-    let event = Some(unexplained.event);
+    let event = Some(subjects.unexplained.event);
     let calls = calls_in_view(draft, view, id, records, event)?;
     let viewed = Viewed {
         id,
         records,
         calls: calls.as_slice(),
     };
-    let order = order_in_view(draft.alloc, unexplained, search, viewed)?;
+    let order = order_in_view(draft.alloc, subjects, search, viewed)?;
     add_viewed(draft, viewed, order, Some(named), event)
 }
 
 /// Adds the timeline of a document of a history for which no order was found.
 pub fn add_failing_timeline<S: OrderSearch>(
     draft: &mut Draft<'_>,
-    unexplained: &Unexplained<'_>,
+    subjects: &Subjects<'_>,
     search: &S,
     named: &Named,
     view: Option<&View<'_>>,
@@ -246,7 +246,7 @@ pub fn add_failing_timeline<S: OrderSearch>(
         return Ok(());
     };
     draft.heading("A timeline of the document");
-    let whole = unexplained.whole;
+    let whole = subjects.unexplained.whole;
     match document_of(whole, view.document) {
         Some(doc) if doc < whole.docs() => {
             let records = whole.records(doc)?;
@@ -254,7 +254,7 @@ pub fn add_failing_timeline<S: OrderSearch>(
                 id: whole.doc(doc),
                 records: records.as_slice(),
             };
-            add_timeline_of(draft, unexplained, search, named, view, document)
+            add_timeline_of(draft, subjects, search, named, view, document)
         }
         _ => {
             add_unknown_document(draft, view);

@@ -46,6 +46,7 @@ impl<'l> Draft<'l> {
             record: *record,
             called: self.lines.line(record.call_at),
             replied: self.lines.reply(record),
+            lost: self.lines.lost(record),
         })
     }
 

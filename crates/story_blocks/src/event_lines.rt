@@ -1,8 +1,9 @@
 use crate::clients::Clients;
 use crate::clock::date_of;
 use crate::head::Span;
+use crate::lost_calls::{LostCall, LostCalls, LostEnding};
 use crate::reported_line::ReportedLine;
-use events::Rec;
+use events::{Event, History, Rec};
 use jiff::Timestamp;
 use std::alloc::Global;
 use version_pair::NoMemory;
@@ -29,8 +30,15 @@ impl EventTime {
     }
 }
 
-/// The lines of a text that its events are on, and when these lines were written, who asked and what was noted, if
-/// they say so. Nothing is promised of them: explanations look at them, and some of these are tested.
+// The HTTP status on the line of an event.
+#[derive(Clone, Copy)]
+struct EventStatus {
+    place: usize,
+    status: i64,
+}
+
+/// The lines of a text that its events are on, and when these lines were written, who asked, what was noted and how
+/// calls of unknown outcome ended, if they say so. Nothing is promised of them: explanations look at them, and some of these are tested.
 #[derive(Drop)]
 pub struct EventLines {
     alloc: Global,
@@ -43,6 +51,10 @@ pub struct EventLines {
     clients: Clients,
     // The notes, by their positions; rising.
     notes: Vec<Note>,
+    // Of the events whose lines have one, by their positions, until it is known which calls are lost; rising.
+    statuses: Vec<EventStatus>,
+    lost: LostCalls,
+    has_voids: bool,
 }
 
 impl EventLines {
@@ -55,6 +67,9 @@ impl EventLines {
             moments: Vec::new(alloc),
             clients: Clients::new(alloc),
             notes: Vec::new(alloc),
+            statuses: Vec::new(alloc),
+            lost: LostCalls::new(alloc),
+            has_voids: false,
         }
     }
 
@@ -87,10 +102,65 @@ impl EventLines {
         Ok(())
     }
 
+    /// Adds the HTTP status on the line of the next event.
+    pub fn add_status(&mut self, status: i64) -> Result<(), NoMemory> {
+        let place = self.events;
+        self.statuses.push(EventStatus { place, status })?;
+        Ok(())
+    }
+
+    /// Adds that the line of an event may say that nothing was performed.
+    pub fn add_void(&mut self) {
+        self.has_voids = true;
+    }
+
     /// Adds the line of the next event, to which what was added since the event before it belongs.
     pub fn add_event(&mut self) {
         // A text has at most 4,194,304 lines, so the sum never reaches the greatest number.
         self.events = self.events.saturating_add(1);
+    }
+
+    // Returns the HTTP status on the line of the event at this position, if it has one.
+    fn status(&self, place: usize) -> Option<i64> {
+        let before = self.statuses.partition_point(|it| it.place < place);
+        match self.statuses.get(before) {
+            Some(it) if it.place == place => Some(it.status),
+            _ => None,
+        }
+    }
+
+    /// Adds how the calls of the history ended whose outcome is lost, as far as their lines say so. `voids` are the
+    /// numbers of those of which the recorder states that nothing was performed, in the order of their lines.
+    pub fn end_calls(&mut self, history: &History, voids: &[u64]) -> Result<(), NoMemory> {
+        let mut calls = Vec::new(self.alloc);
+        let mut voids = voids.iter();
+        let mut void = voids.next();
+        for place in 0..history.len() {
+            let Event::Lost { no } = history.event(place) else {
+                continue;
+            };
+            let ending = if void == Some(no) {
+                void = voids.next();
+                Some(LostEnding::Void)
+            } else {
+                match self.status(place) {
+                    Some(status) => Some(LostEnding::Answered(status)),
+                    None => None,
+                }
+            };
+            if let Some(ending) = ending {
+                let no = *no;
+                calls.push(LostCall { no, place, ending })?;
+            }
+        }
+        self.lost = LostCalls::of(calls);
+        self.statuses = Vec::new(self.alloc);
+        Ok(())
+    }
+
+    /// Returns whether a line may say that nothing was performed.
+    pub fn has_voids(&self) -> bool {
+        self.has_voids
     }
 
     /// Returns the line, from 1, of the event at this position, from 0.
@@ -132,12 +202,37 @@ impl EventLines {
         }
     }
 
+    /// Returns the call if its outcome is lost, and its ending known.
+    pub fn lost(&self, record: &Rec) -> Option<LostCall> {
+        match record.heard {
+            Some(_) => None,
+            None => self.lost.get(record.no),
+        }
+    }
+
+    /// Returns the position at which the call was over, if that is known: that of its reply.
+    pub fn over_at(&self, record: &Rec) -> Option<usize> {
+        match (record.heard, self.lost(record)) {
+            (Some(heard), _) => Some(heard.0),
+            (None, Some(call)) => Some(call.place),
+            (None, None) => None,
+        }
+    }
+
+    /// Returns the position of the reply to the call; that of the call if there is no reply.
+    pub fn end_of(&self, record: &Rec) -> usize {
+        self.over_at(record).unwrap_or(record.call_at)
+    }
+
+    /// Returns whether the two calls were open at the same time.
+    pub fn overlap(&self, one: &Rec, other: &Rec) -> bool {
+        one.call_at < self.over_at(other).unwrap_or(usize::MAX)
+            && other.call_at < self.over_at(one).unwrap_or(usize::MAX)
+    }
+
     /// Returns the line of the reply to the call, as sentences name it; that of the call if there is no reply.
     pub fn reply(&self, record: &Rec) -> ReportedLine {
-        match record.heard {
-            Some(heard) => self.line(heard.0),
-            None => self.line(record.call_at),
-        }
+        self.line(self.end_of(record))
     }
 
     /// Returns the number of events.

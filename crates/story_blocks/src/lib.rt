@@ -17,6 +17,7 @@ mod drawing;
 mod drawing_pieces;
 mod event_lines;
 mod head;
+mod lost_calls;
 mod page_facts;
 mod page_pieces;
 mod pieces;
@@ -35,6 +36,7 @@ pub use drawing::{
 };
 pub use event_lines::{EventLines, Note};
 pub use head::HistoryCounts;
+pub use lost_calls::{LostCall, LostEnding};
 pub use page_facts::About;
 pub use page_pieces::page_of;
 pub use plain::plain_text;

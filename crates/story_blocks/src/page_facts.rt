@@ -3,8 +3,8 @@ use crate::head::{Head, HistoryCounts, Span};
 use crate::view::View;
 use crate::word::Word::{Count, Number, Shown};
 use crate::word::{Word, add_sentences};
-use doc_register::Conflicts;
 use evidence::RulingOut;
+use readings::{ConflictReading, Failed, Gets, Reading, Writes};
 use std::alloc::Global;
 use version_pair::NoMemory;
 
@@ -16,8 +16,8 @@ const PROGRAM: &str = "casbench 0.1.0";
 pub struct About<'a> {
     /// The path of the text's file, whose last part is shown; `None` if it is standard input.
     pub file: Option<&'a str>,
-    /// How conflicts were read.
-    pub conflicts: Conflicts,
+    /// How the history was read.
+    pub reading: Reading,
     /// Whether documents were looked for that are ruled out.
     pub ruling_out: RulingOut,
     /// How many workers searched.
@@ -85,10 +85,7 @@ impl Facts {
 
     // Adds the options.
     fn add_options(&mut self, about: &About<'_>) -> Result<(), NoMemory> {
-        let reading = match about.conflicts {
-            Conflicts::Plain => "--conflicts plain ",
-            Conflicts::Maybe => "--conflicts maybe ",
-        };
+        let [gets, conflicts, writes, failed] = reading_options(about.reading);
         let ruling = match about.ruling_out {
             RulingOut::On => "--rule-out ",
             RulingOut::Off => "",
@@ -96,7 +93,7 @@ impl Facts {
         let Some(view) = &about.view else {
             return self.add(
                 "options",
-                &[reading, ruling, "--workers {}"],
+                &[gets, conflicts, writes, failed, ruling, "--workers {}"],
                 &[Count(about.workers)],
             );
         };
@@ -107,7 +104,15 @@ impl Facts {
         };
         self.add(
             "options",
-            &[reading, ruling, "--workers {} --document \"{}\"", lines],
+            &[
+                gets,
+                conflicts,
+                writes,
+                failed,
+                ruling,
+                "--workers {} --document \"{}\"",
+                lines,
+            ],
             &[
                 Count(about.workers),
                 Shown(view.document),
@@ -116,6 +121,29 @@ impl Facts {
             ],
         )
     }
+}
+
+// Returns the options of a reading. Of conflicts they say also that they are read strictly.
+fn reading_options(reading: Reading) -> [&'static str; 4] {
+    [
+        match reading.gets {
+            Gets::Last => "",
+            Gets::Any => "--gets any ",
+        },
+        match reading.conflicts {
+            ConflictReading::Plain => "--conflicts plain ",
+            ConflictReading::Maybe => "--conflicts maybe ",
+            ConflictReading::Unknown => "--conflicts unknown ",
+        },
+        match reading.writes {
+            Writes::Once => "",
+            Writes::Repeated => "--writes repeated ",
+        },
+        match reading.failed {
+            Failed::Lost => "",
+            Failed::Trusted => "--failed trusted ",
+        },
+    ]
 }
 
 // Returns the name of the file, without the folders before it.

@@ -1,3 +1,4 @@
+use crate::lost_calls::{LostCall, LostEnding};
 use crate::reported_line::ReportedLine;
 use doc_register::{Conflicts, DocState, Op, Reply};
 use events::Rec;
@@ -23,8 +24,6 @@ pub enum Word<'a> {
     Version(Option<Pair>),
     /// What was asked.
     Asked(Op),
-    /// What was heard of a call.
-    Heard(Option<(usize, Reply)>),
     /// The state of a document.
     State(DocState),
     /// How far a document has come, behind `it had`.
@@ -40,6 +39,8 @@ pub struct LinedCall {
     pub called: ReportedLine,
     /// The line of the reply; that of the call if there is no reply.
     pub replied: ReportedLine,
+    /// How it ended, if its outcome is lost and that is known.
+    pub lost: Option<LostCall>,
 }
 
 // Adds a version after what it is about.
@@ -150,11 +151,36 @@ fn add_id(text: &mut String, id: &DocId) -> Result<(), NoMemory> {
     text.push('"')
 }
 
-// Adds what was heard of a call.
-fn add_heard(text: &mut String, heard: Option<(usize, Reply)>) -> Result<(), NoMemory> {
-    match heard {
-        Some(heard) => add_reply(text, heard.1),
-        None => text.push_str("no reply"),
+// Adds how a call ended whose outcome is lost, in short.
+fn add_ending(text: &mut String, ending: LostEnding) -> Result<(), NoMemory> {
+    match ending {
+        LostEnding::Answered(status) => write!(text, "HTTP {status}"),
+        LostEnding::Void => text.push_str("nothing was performed"),
+    }
+}
+
+// Returns what doesn't follow from how a call ended, or who says what does.
+fn ending_words(ending: LostEnding, op: Op) -> &'static str {
+    match (ending, op) {
+        (LostEnding::Answered(_), Op::Get) => ", which doesn't say what was read",
+        (LostEnding::Answered(_), _) => ", which doesn't say whether the write was performed",
+        (LostEnding::Void, _) => ", as the recorder states",
+    }
+}
+
+// Adds what was heard of a call: in short, or with what that leaves open.
+fn add_heard(text: &mut String, call: &LinedCall, is_short: bool) -> Result<(), NoMemory> {
+    match (call.record.heard, call.lost) {
+        (Some(heard), _) => add_reply(text, heard.1),
+        (None, None) => text.push_str("no reply"),
+        (None, Some(lost)) => {
+            add_ending(text, lost.ending)?;
+            if is_short {
+                Ok(())
+            } else {
+                text.push_str(ending_words(lost.ending, call.record.op))
+            }
+        }
     }
 }
 
@@ -197,7 +223,8 @@ fn add_part(text: &mut String, call: &LinedCall, name: &str) -> Result<(), NoMem
         "condition" => add_version_if(text, call.record.op.condition()),
         "called" => add_line(text, call.called),
         "replied" => add_line(text, call.replied),
-        "heard" => add_heard(text, heard),
+        "heard" => add_heard(text, call, false),
+        "reply" => add_heard(text, call, true),
         "version" => add_version_if(text, version_in(heard)),
         "k" => add_number(text, number_in(heard)),
         "shown" => add_shower(text, call),
@@ -217,7 +244,6 @@ fn add_word(text: &mut String, word: &Word<'_>, part: &str) -> Result<(), NoMemo
         Word::Id(id) => add_id(text, id),
         Word::Version(pair) => add_version_if(text, pair),
         Word::Asked(op) => add_asked(text, op),
-        Word::Heard(heard) => add_heard(text, heard),
         Word::State(state) => add_state(text, state),
         Word::Reached(stage) => add_reached(text, stage),
         Word::Call(call) => add_part(text, &call, part),
@@ -237,8 +263,8 @@ fn add_at(text: &mut String, words: &[Word<'_>], place: &str, next: usize) -> Re
 }
 
 /// Adds sentences, one after the other, as templates with words at their places. A place is `{}` for the next word,
-/// `{2}` for the word of this number, from 0, or `{2.asked}` for a part of a call: its number `no`, `asked`, `heard`,
-/// its lines `called` and `replied`, its `condition`, `version` and `k` in its reply, or, in brackets, that its reply
+/// `{2}` for the word of this number, from 0, or `{2.asked}` for a part of a call: its number `no`, `asked`, `heard`
+/// and, in short, `reply`, its lines `called` and `replied`, its `condition`, `version` and `k` in its reply, or, in brackets, that its reply
 /// is where a version is `shown`. That there is a word for each place is tested, not proved.
 pub fn add_sentences(
     text: &mut String,

@@ -47,8 +47,8 @@ pub fn width_of(words: &str) -> u64 {
 fn bar_words(draft: &mut Draft<'_>, drawn: &Drawn<'_, '_>, call: &Call<'_>) -> String {
     let template = match (drawn.has_words(), drawn.several) {
         (false, _) => "{0.no}",
-        (true, false) => "{0.no} {0.asked}: {0.heard}",
-        (true, true) => "{0.no} {1} {0.asked}: {0.heard}",
+        (true, false) => "{0.no} {0.asked}: {0.reply}",
+        (true, true) => "{0.no} {1} {0.asked}: {0.reply}",
     };
     draft.text(template, &[draft.call(&call.record), Id(call.id)])
 }
@@ -72,7 +72,7 @@ fn tip_words(draft: &mut Draft<'_>, drawn: &Drawn<'_, '_>, call: &Call<'_>) -> S
     } else {
         "{0.asked} -> {0.heard}"
     };
-    let lines = match call.record.heard {
+    let lines = match draft.lines.over_at(&call.record) {
         Some(_) => " (line {0.called}, reply on line {0.replied})",
         None => " (line {0.called})",
     };
@@ -87,7 +87,7 @@ fn effect_of(drawn: &Drawn<'_, '_>, call: &Call<'_>, scale: &Scale) -> Option<u6
         return None;
     };
     for step in order.steps.iter() {
-        if step.record.no == call.record.no {
+        if step.record.no == call.record.no && !step.is_again {
             return Some(scale.x(step.point));
         }
     }
@@ -122,8 +122,9 @@ impl Bars {
         call: &Call<'_>,
     ) -> Result<(), NoMemory> {
         let x = scale.x(call.record.call_at);
-        let end = match call.record.heard {
-            Some(heard) => scale.x(heard.0),
+        let over_at = draft.lines.over_at(&call.record);
+        let end = match over_at {
+            Some(place) => scale.x(place),
             None => scale.right,
         };
         let words = bar_words(draft, drawn, call);
@@ -137,7 +138,7 @@ impl Bars {
                 Some(named) => named.mark(call.record.no),
                 None => Mark::Plain,
             },
-            is_open: call.record.heard.is_none(),
+            is_open: over_at.is_none(),
             x,
             y: self.lanes.take(words_x.min(x), taken)?,
             // A reply is to the right of its call, so this is never below zero.

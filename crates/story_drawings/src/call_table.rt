@@ -1,7 +1,7 @@
 use crate::named::Named;
-use story_blocks::Word::{Asked, Count, Heard, Id, Number, Shown};
-use story_blocks::{CallReported, CallRow, CallTable, Draft, NoteReported};
-use story_reasons::{Call, Subject, end_of, overlap};
+use story_blocks::Word::{Asked, Count, Id, Number, Shown};
+use story_blocks::{CallReported, CallRow, CallTable, Draft, EventLines, NoteReported};
+use story_reasons::{Call, Subject};
 use version_pair::NoMemory;
 
 // The greatest number of calls that are named as open at the same time, and of notes before a call.
@@ -20,11 +20,11 @@ pub struct Listing<'a, 'h> {
 }
 
 // Returns how many other calls of the documents were open at the same time as the call.
-fn open_count(call: &Call<'_>, subjects: &[Subject<'_>]) -> usize {
+fn open_count(lines: &EventLines, call: &Call<'_>, subjects: &[Subject<'_>]) -> usize {
     let mut count = 0usize;
     for subject in subjects {
         for record in subject.all() {
-            if record.no != call.record.no && overlap(&call.record, record) {
+            if record.no != call.record.no && lines.overlap(&call.record, record) {
                 // A history has too few calls for the sum to reach the greatest number.
                 count = count.saturating_add(1);
             }
@@ -36,9 +36,11 @@ fn open_count(call: &Call<'_>, subjects: &[Subject<'_>]) -> usize {
 // Returns the first few of the calls that were open at the same time as the call, and how many more there are of this
 // count, in words.
 fn open_words(draft: &mut Draft<'_>, call: &Call<'_>, calls: &[Call<'_>], count: usize) -> String {
+    let lines = draft.lines;
     let mut named = 0usize;
     for other in calls {
-        if named < MOST_OPEN && other.record.no != call.record.no && call.is_open_with(other) {
+        let is_open = lines.overlap(&call.record, &other.record);
+        if named < MOST_OPEN && other.record.no != call.record.no && is_open {
             let template = if named == 0 { "{}" } else { ", {}" };
             draft.say(&[template], &[Number(other.record.no)]);
             named += 1;
@@ -102,7 +104,7 @@ impl<'h> Listing<'_, 'h> {
     // Returns a call in words.
     fn call_reported(&self, draft: &mut Draft<'_>, call: &Call<'h>) -> CallReported {
         let record = &call.record;
-        let count = open_count(call, self.subjects);
+        let count = open_count(draft.lines, call, self.subjects);
         let asked = if self.subjects.len() > 1 {
             "{0} {1}"
         } else {
@@ -115,11 +117,11 @@ impl<'h> Listing<'_, 'h> {
             no: record.no,
             client: draft.text("{}", &[Shown(client)]),
             asked: draft.text(asked, &[Id(call.id), Asked(record.op)]),
-            replied: match record.heard {
-                Some(heard) => Some(draft.lines.line(heard.0)),
+            replied: match draft.lines.over_at(record) {
+                Some(place) => Some(draft.lines.line(place)),
                 None => None,
             },
-            answered: draft.text("{}", &[Heard(record.heard)]),
+            answered: draft.text("{0.heard}", &[draft.call(record)]),
             open_with: open_words(draft, call, self.reported, count),
         }
     }
@@ -139,7 +141,7 @@ impl<'h> Listing<'_, 'h> {
             rows.add_notes(draft, call.record.call_at.saturating_add(1))?;
             let reported = self.call_reported(draft, call);
             rows.list.push(CallRow::Call(reported))?;
-            last = last.max(end_of(&call.record));
+            last = last.max(draft.lines.end_of(&call.record));
         }
         rows.add_notes(draft, last.saturating_add(1))?;
         Ok(CallTable {

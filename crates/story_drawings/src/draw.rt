@@ -45,7 +45,7 @@ fn here_of(draft: &Draft<'_>, scale: &Scale, event: Option<usize>) -> Option<Eve
 
 /// Returns the drawing.
 pub fn drawing_of(draft: &mut Draft<'_>, drawn: &Drawn<'_, '_>) -> Result<Drawing, NoMemory> {
-    let scale = Scale::of(draft.alloc, drawn.calls, drawn.least_step())?;
+    let scale = Scale::of(draft, drawn.calls, drawn.least_step())?;
     let bars = bars_of(draft, drawn, &scale)?;
     let lanes_end = bars.end();
     let boxes = boxes_of(draft, drawn, after(lanes_end, BELOW_LANES), scale.right)?;

@@ -1,5 +1,6 @@
 use crate::named::Named;
 use std::alloc::Global;
+use story_blocks::{EventLines, LostEnding};
 use story_reasons::{Call, Subject, in_order};
 use version_pair::NoMemory;
 
@@ -21,12 +22,24 @@ pub struct Kept<'h> {
     pub unanswered_count: usize,
     /// Some of them, the last ones of each document first.
     pub unanswered: Vec<Call<'h>>,
+    /// Whether some of them were answered all the same, by a reply that doesn't say whether they were performed.
+    pub has_replies: bool,
+}
+
+// Whether the call is a write that may have been performed, though no reply says so.
+fn may_have_happened(lines: &EventLines, call: &Call<'_>) -> bool {
+    let is_void = match lines.lost(&call.record) {
+        Some(lost) => lost.ending == LostEnding::Void,
+        None => false,
+    };
+    call.may_have_happened() && !is_void
 }
 
 impl<'h> Kept<'h> {
     /// Returns what is kept of the calls of these documents, in the order in which they were made.
     pub fn of(
         alloc: Global,
+        lines: &EventLines,
         subjects: &[Subject<'h>],
         named: &Named,
     ) -> Result<Kept<'h>, NoMemory> {
@@ -35,9 +48,10 @@ impl<'h> Kept<'h> {
             calls: Vec::new(alloc),
             unanswered_count: 0,
             unanswered: Vec::new(alloc),
+            has_replies: false,
         };
         for subject in subjects {
-            kept.count(named, subject)?;
+            kept.count(lines, named, subject)?;
             kept.keep(named, subject, true)?;
             kept.keep(named, subject, false)?;
         }
@@ -46,12 +60,14 @@ impl<'h> Kept<'h> {
             calls,
             unanswered_count,
             unanswered,
+            has_replies,
         } = kept;
         Ok(Kept {
             calls_count,
             calls: in_order(calls),
             unanswered_count,
             unanswered: in_order(unanswered),
+            has_replies,
         })
     }
 
@@ -78,13 +94,19 @@ impl<'h> Kept<'h> {
 
     // Counts the calls of a document, up to the last event that matters, and keeps those that are writes without a
     // reply if there is room.
-    fn count(&mut self, named: &Named, subject: &Subject<'h>) -> Result<(), NoMemory> {
+    fn count(
+        &mut self,
+        lines: &EventLines,
+        named: &Named,
+        subject: &Subject<'h>,
+    ) -> Result<(), NoMemory> {
         for record in subject.all().iter().rev() {
             if record.call_at <= named.last {
                 let call = subject.call(record);
                 // A history has too few calls for these to reach the greatest number.
                 self.calls_count = self.calls_count.saturating_add(1);
-                if call.may_have_happened() {
+                if may_have_happened(lines, &call) {
+                    self.has_replies = self.has_replies || lines.over_at(record).is_some();
                     self.unanswered_count = self.unanswered_count.saturating_add(1);
                     if self.unanswered.len() < MOST_DESCRIBED {
                         self.unanswered.push(call)?;

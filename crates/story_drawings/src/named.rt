@@ -2,7 +2,7 @@ ghost use Rattle.std.specs.Prelude.{◌≤◌, IfOk, vec_len};
 
 use events::{History, Rec};
 use std::alloc::Global;
-use story_blocks::Mark;
+use story_blocks::{EventLines, Mark};
 use story_reasons::{
     Call, EvidenceCalls, Reason, Subject, Unexplained, call_of, end_of, in_order, version_shown,
 };
@@ -135,14 +135,17 @@ impl Named {
     }
 
     // Returns how much the call matters. `beside` are the calls that are named.
-    fn rank(&self, call: &Call<'_>, beside: &[Call<'_>]) -> Rank {
+    fn rank(&self, lines: &EventLines, call: &Call<'_>, beside: &[Call<'_>]) -> Rank {
         if self.is_named(call.record.no) {
             Rank::Named
         } else if self.matters(call) {
             Rank::Writer
         } else if self.can_do_without(call) {
             Rank::Other
-        } else if beside.iter().any(|other| call.is_open_with(other)) {
+        } else if beside
+            .iter()
+            .any(|other| lines.overlap(&call.record, &other.record))
+        {
             Rank::Beside
         } else {
             Rank::Other
@@ -165,6 +168,7 @@ impl Named {
     pub fn first<'h>(
         &self,
         alloc: Global,
+        lines: &EventLines,
         calls: &[Call<'h>],
         most: usize,
     ) -> Result<Vec<Call<'h>>, NoMemory>
@@ -175,7 +179,7 @@ impl Named {
         let mut first = Vec::new(alloc);
         for rank in [Rank::Named, Rank::Writer, Rank::Beside] {
             for call in calls.iter().rev() {
-                if first.len() < most && self.rank(call, &named) == rank {
+                if first.len() < most && self.rank(lines, call, &named) == rank {
                     first.push(*call)?;
                 }
             }

@@ -11,9 +11,14 @@ pub fn places_reported(
     let mut reported = Vec::new(draft.alloc);
     for step in order.steps.iter() {
         let after = if step.is_change { "{}" } else { "as before" };
+        let asked = if step.is_again {
+            "{}, another attempt"
+        } else {
+            "{}"
+        };
         reported.push(PlaceReported {
             no: step.record.no,
-            asked: draft.text("{}", &[Asked(step.record.op)]),
+            asked: draft.text(asked, &[Asked(step.record.op)]),
             after: draft.text(after, &[State(step.state)]),
         })?;
     }

@@ -1,5 +1,4 @@
-use std::alloc::Global;
-use story_blocks::{WIDTH, after};
+use story_blocks::{Draft, WIDTH, after};
 use story_reasons::Call;
 use version_pair::NoMemory;
 
@@ -25,12 +24,12 @@ pub struct Scale {
 
 impl Scale {
     /// Returns that of the calls, with at least that distance from one event to the next.
-    pub fn of(alloc: Global, calls: &[Call<'_>], least_step: u64) -> Result<Scale, NoMemory> {
-        let mut places = Vec::new(alloc);
+    pub fn of(draft: &Draft<'_>, calls: &[Call<'_>], least_step: u64) -> Result<Scale, NoMemory> {
+        let mut places = Vec::new(draft.alloc);
         for call in calls {
             places.push(call.record.call_at)?;
-            if let Some(heard) = call.record.heard {
-                places.push(heard.0)?;
+            if let Some(place) = draft.lines.over_at(&call.record) {
+                places.push(place)?;
             }
         }
         places.sort_unstable();

@@ -67,7 +67,12 @@ impl Boxes {
         };
         self.add(draft, start, when, 0)?;
         for step in changes[skipped..].iter() {
-            self.add(draft, step.state, "by call {}", step.record.no)?;
+            let maker = if step.is_again {
+                "by call {}, another attempt"
+            } else {
+                "by call {}"
+            };
+            self.add(draft, step.state, maker, step.record.no)?;
         }
         Ok(())
     }

@@ -61,19 +61,6 @@ pub fn end_of(record: &Rec) -> usize {
     }
 }
 
-// Returns how long the call was open: up to the position of its reply, if there is one.
-fn open_until(record: &Rec) -> usize {
-    match record.heard {
-        Some(heard) => heard.0,
-        None => usize::MAX,
-    }
-}
-
-/// Returns whether the two calls were open at the same time.
-pub fn overlap(one: &Rec, other: &Rec) -> bool {
-    one.call_at < open_until(other) && other.call_at < open_until(one)
-}
-
 impl Call<'_> {
     /// Returns whether it is a write without a reply, so that its outcome is unknown (indeterminate).
     pub fn may_have_happened(&self) -> bool {
@@ -83,11 +70,6 @@ impl Call<'_> {
     /// Returns whether it was answered with a conflict.
     pub fn is_refused(&self) -> bool {
         matches!(self.record.heard, Some((_, Reply::Conflict)))
-    }
-
-    /// Returns whether the two were open at the same time.
-    pub fn is_open_with(&self, other: &Call<'_>) -> bool {
-        overlap(&self.record, &other.record)
     }
 }
 

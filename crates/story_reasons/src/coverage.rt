@@ -1,20 +1,21 @@
 use crate::calls::{end_of, version_shown};
 use doc_register::{Op, Reply};
-use events::Rec;
-use places::DocWitness;
+use events::{History, Rec};
+use std::alloc::Global;
+use version_pair::NoMemory;
 
-/// What a call is able to show of what can go wrong.
+// What a call is able to show of what can go wrong.
 #[derive(Clone, Copy, PartialEq, Eq)]
-pub enum CallKind {
-    /// A get that was answered.
+enum CallKind {
+    // A get that was answered.
     Get,
-    /// A write under a condition, or a create, that was performed.
+    // A write under a condition, or a create, that was performed.
     Performed,
-    /// One that was answered with a conflict.
+    // One that was answered with a conflict.
     Conflict,
-    /// A write without a reply.
+    // A write without a reply.
     Unanswered,
-    /// Any other call: it shows nothing.
+    // Any other call: it shows nothing.
     Other,
 }
 
@@ -39,36 +40,20 @@ fn kind_of(record: &Rec) -> CallKind {
     }
 }
 
-/// Returns how many calls of the documents are of this kind.
-pub fn count_of(witnesses: &[DocWitness], kind: CallKind) -> usize {
+// Returns how many of a document's calls were open at the same time as an answered one.
+fn overlapping_of(records: &[Rec]) -> usize {
     let mut count = 0usize;
-    for witness in witnesses {
-        for record in witness.records() {
-            if kind_of(record) == kind {
-                // A history has too few calls for the sum to reach the greatest number.
-                count = count.saturating_add(1);
-            }
+    let mut open_until = 0usize;
+    for (i, record) in records.iter().enumerate() {
+        // A call that was never answered counts as ended at once: it may take effect at any time, so all
+        // later calls would overlap it.
+        let end = end_of(record);
+        let is_before_next = i + 1 < records.len() && records[i + 1].call_at < end;
+        if record.call_at < open_until || is_before_next {
+            // A history has too few calls for the sum to reach the greatest number.
+            count = count.saturating_add(1);
         }
-    }
-    count
-}
-
-/// Returns how many calls of the documents were open at the same time as an answered call of their document.
-pub fn overlapping_of(witnesses: &[DocWitness]) -> usize {
-    let mut count = 0usize;
-    for witness in witnesses {
-        let records = witness.records();
-        let mut open_until = 0usize;
-        for (i, record) in records.iter().enumerate() {
-            // A call that was never answered counts as ended at once: it may take effect at any time, so all
-            // later calls would overlap it.
-            let end = end_of(record);
-            let is_before_next = i + 1 < records.len() && records[i + 1].call_at < end;
-            if record.call_at < open_until || is_before_next {
-                count = count.saturating_add(1);
-            }
-            open_until = open_until.max(end);
-        }
+        open_until = open_until.max(end);
     }
     count
 }
@@ -94,15 +79,60 @@ fn with_term(terms: Option<Terms>, term: u64) -> Terms {
     }
 }
 
-/// Returns the terms of the documents' calls; `None` if no reply shows one.
-pub fn terms_of(witnesses: &[DocWitness]) -> Option<Terms> {
-    let mut terms = None;
-    for witness in witnesses {
-        for record in witness.records() {
-            if let Some(pair) = version_shown(record) {
-                terms = Some(with_term(terms, pair.term()));
-            }
+/// What the calls of a text are able to show of what can go wrong.
+#[derive(Drop)]
+pub struct Coverage {
+    /// How many calls were open at the same time as an answered call of their document.
+    pub overlapping: usize,
+    /// How many gets were answered.
+    pub gets: usize,
+    /// How many writes under a condition, creates included, were performed.
+    pub performed: usize,
+    /// How many of them were answered with a conflict.
+    pub conflicts: usize,
+    /// How many writes have no reply.
+    pub unanswered: usize,
+    /// The primary terms that replies show, if one does.
+    pub terms: Option<Terms>,
+    /// The number of calls of each document.
+    pub calls: Vec<usize>,
+}
+
+impl Coverage {
+    // Adds a call. A history has too few calls for a sum to reach the greatest number.
+    fn add(&mut self, record: &Rec) {
+        match kind_of(record) {
+            CallKind::Get => self.gets = self.gets.saturating_add(1),
+            CallKind::Performed => self.performed = self.performed.saturating_add(1),
+            CallKind::Conflict => self.conflicts = self.conflicts.saturating_add(1),
+            CallKind::Unanswered => self.unanswered = self.unanswered.saturating_add(1),
+            CallKind::Other => (),
+        }
+        if let Some(pair) = version_shown(record) {
+            self.terms = Some(with_term(self.terms, pair.term()));
         }
     }
-    terms
+
+    /// Returns what the calls of the text are able to show.
+    pub fn of(alloc: Global, text: &History) -> Result<Coverage, NoMemory> {
+        let mut coverage = Coverage {
+            overlapping: 0,
+            gets: 0,
+            performed: 0,
+            conflicts: 0,
+            unanswered: 0,
+            terms: None,
+            calls: Vec::new(alloc),
+        };
+        for doc in 0..text.docs() {
+            let records = text.records(doc)?;
+            let overlapping = overlapping_of(&records);
+            coverage.overlapping = coverage.overlapping.saturating_add(overlapping);
+            for record in records.iter() {
+                coverage.add(record);
+            }
+            coverage.calls.push(records.len())?;
+        }
+        Ok(coverage)
+    }
 }

@@ -1,13 +1,13 @@
 ghost use Rattle.std.specs.Prelude.{◌<◌, length};
 ghost use Rattle.events.specs.Events.{documents_of};
 
+use crate::accounts::Account;
 use crate::anomaly::Anomaly;
 use crate::calls::end_of;
 use crate::diagnosis::anomaly_of;
 use crate::lost_writes::{LostWrites, lost_writes};
 use crate::reason::{Reason, found_reason};
-use crate::subject::Unexplained;
-use crate::subjects::Subject;
+use crate::subjects::{Subject, Subjects};
 use events::Rec;
 use evidence::is_document_ruled_out;
 use std::alloc::Global;
@@ -83,20 +83,23 @@ impl Damage {
     fn add_document(
         &mut self,
         alloc: Global,
-        unexplained: &Unexplained<'_>,
+        account: &Account<'_>,
         doc: usize,
     ) -> Result<bool, NoMemory>
-        requires { doc < length (documents_of unexplained.now.whole.now) }
+        requires judged { doc < length (documents_of account.now.judged.whole.now) }
+        requires told { doc < length (documents_of account.now.told.whole.now) }
     {
-        let whole = unexplained.whole;
-        let conflicts = unexplained.conflicts;
-        if !is_document_ruled_out(alloc, whole, doc, conflicts)? {
+        let judged = &account.judged;
+        let conflicts = judged.conflicts;
+        if !is_document_ruled_out(alloc, judged.whole, doc, conflicts)? {
             return Ok(false);
         }
-        let records = whole.records(doc)?;
-        match found_reason(alloc, unexplained.evidence, &records, conflicts)? {
+        let records = judged.whole.records(doc)?;
+        let writes = account.reading.writes;
+        match found_reason(alloc, judged.evidence, &records, conflicts, writes)? {
             Some(reason) => {
-                self.add(alloc, &reason, &records)?;
+                let reason = reason.in_text(&account.whole_back());
+                self.add(alloc, &reason, &account.told.whole.records(doc)?)?;
                 Ok(true)
             }
             None => Ok(false),
@@ -107,16 +110,17 @@ impl Damage {
     fn add_subject(
         &mut self,
         alloc: Global,
-        unexplained: &Unexplained<'_>,
+        account: &Account<'_>,
         doc: usize,
         subject: &Subject<'_>,
     ) -> Result<(), NoMemory>
-        requires { doc < length (documents_of unexplained.now.whole.now) }
+        requires judged { doc < length (documents_of account.now.judged.whole.now) }
+        requires told { doc < length (documents_of account.now.told.whole.now) }
     {
         match subject.whole_reason() {
             Some(reason) => self.add(alloc, reason, &subject.records),
             None => {
-                self.add_document(alloc, unexplained, doc)?;
+                self.add_document(alloc, account, doc)?;
                 Ok(())
             }
         }
@@ -134,23 +138,22 @@ fn subject_of<'s, 'h>(subjects: &'s [Subject<'h>], id: &DocId) -> Option<&'s Sub
 }
 
 /// Returns how much of the whole history is broken. It takes at most one walk over each document.
-pub fn damage_of(
-    alloc: Global,
-    unexplained: &Unexplained<'_>,
-    subjects: &[Subject<'_>],
-) -> Result<Damage, NoMemory> {
-    let whole = unexplained.whole;
+pub fn damage_of(alloc: Global, subjects: &Subjects<'_>) -> Result<Damage, NoMemory> {
+    let account = &subjects.account;
+    let whole = account.told.whole;
+    // What is judged has the documents of the text.
+    let documents = whole.docs().min(account.judged.whole.docs());
     let mut damage = Damage {
         documents: 0,
         others: 0,
         counts: Vec::new(alloc),
         lost: None,
     };
-    for doc in 0..whole.docs() {
-        match subject_of(subjects, whole.doc(doc)) {
-            Some(subject) => damage.add_subject(alloc, unexplained, doc, subject)?,
+    for doc in 0..documents {
+        match subject_of(&subjects.list, whole.doc(doc)) {
+            Some(subject) => damage.add_subject(alloc, account, doc, subject)?,
             None => {
-                let is_added = damage.add_document(alloc, unexplained, doc)?;
+                let is_added = damage.add_document(alloc, account, doc)?;
                 // A history has too few documents for the sum to reach the greatest number.
                 damage.others = damage.others.saturating_add(usize::from(is_added));
             }

@@ -104,7 +104,8 @@ fn evident(evidence: Refuted) -> Option<Diagnosis> {
     let (anomaly, call) = match evidence {
         Refuted::PairTwice(_, second) => (Anomaly::VersionTwice, second),
         Refuted::NoWriter(get) => (Anomaly::UnwrittenValue, get),
-        Refuted::StaleGet(get, _) | Refuted::MissedWrite(get, _) => (Anomaly::StaleRead, get),
+        Refuted::StaleGet(get, _) => (Anomaly::StaleRead, get),
+        Refuted::MissedWrite(get, _) => (Anomaly::WriteNotSeen, get),
         Refuted::StaleSwap(_, second) => (Anomaly::LostUpdate, second),
         Refuted::RuledOut(_) => return None,
     };

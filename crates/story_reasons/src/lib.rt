@@ -3,17 +3,19 @@
 //! proved elsewhere, and a reason is a guess for people, given only for documents that are ruled out.
 //!
 //! ```text
-//! let subjects = Subjects::of(alloc, &unexplained)?;
-//! let diagnosis = diagnosis_of(&unexplained, &subjects.list); // the anomaly that the calls show
+//! let subjects = Subjects::of(alloc, &account)?;
+//! let diagnosis = diagnosis_of(&account.told, &subjects.list); // the anomaly that the calls show
 //! ```
 #![tactic(auto)]
 
+mod accounts;
 mod anomaly;
 mod calls;
 mod coverage;
 mod damage;
 mod diagnosis;
 mod falling_versions;
+mod in_text;
 mod lost_writes;
 mod order_search;
 mod order_steps;
@@ -22,12 +24,12 @@ mod subject;
 mod subjects;
 mod window;
 
+pub use accounts::Account;
 pub use anomaly::Anomaly;
 pub use calls::{
-    Call, EvidenceCalls, call_of, end_of, in_order, is_answered_before, overlap, record_of,
-    version_shown,
+    Call, EvidenceCalls, call_of, end_of, in_order, is_answered_before, record_of, version_shown,
 };
-pub use coverage::{CallKind, Terms, count_of, overlapping_of, terms_of};
+pub use coverage::{Coverage, Terms};
 pub use damage::{AnomalyCount, Damage, damage_of};
 pub use diagnosis::{Diagnosis, diagnosis_of};
 pub use falling_versions::version_fall;

@@ -2,10 +2,12 @@ ghost use Rattle.std.specs.Prelude.{◌<◌, IfOk, IfSome, length};
 ghost use Rattle.evidence.specs.Evidence.{IsDocumentRuledOut};
 
 use crate::calls::{EvidenceCalls, end_of, version_shown};
+use crate::in_text::{is_twin, record_in_text};
 use crate::subject::Unexplained;
 use doc_register::Conflicts;
 use events::Rec;
 use evidence::{Refuted, is_document_ruled_out};
+use readings::{WayBack, Writes};
 use ruled_out::{Cause, Stage, Standings, Stop, Unhelpful, Unmet};
 use std::alloc::Global;
 use version_pair::{NoMemory, Pair};
@@ -46,7 +48,8 @@ pub struct Reason {
     /// The version that is mentioned beside these, and the first call that shows it.
     pub last: Option<Pair>,
     pub shower: Option<Rec>,
-    /// The first few of the writes of which no reply says whether they were performed.
+    /// The first few of the writes of which no reply says whether they were performed. What a reading adds is not
+    /// among them.
     pub unreported: Vec<Unreported>,
     /// The number of all of them.
     pub unreported_count: usize,
@@ -76,6 +79,22 @@ impl Reason {
             last = last.max(unreported.write.call_at);
         }
         last > event
+    }
+
+    /// Returns it with its calls as the text has them.
+    pub fn in_text(self, back: &WayBack<'_>) -> Reason {
+        let mut reason = self;
+        reason.stop = record_in_text(back, &reason.stop);
+        if let Some(shower) = reason.shower {
+            reason.shower = Some(record_in_text(back, &shower));
+        }
+        for link in reason.links.iter_mut() {
+            link.record = record_in_text(back, &link.record);
+        }
+        for unreported in reason.unreported.iter_mut() {
+            unreported.write = record_in_text(back, &unreported.write);
+        }
+        reason
     }
 
     /// Returns whether some indeterminate write could have given the call a position.
@@ -174,17 +193,31 @@ fn add_unreported(
     unreported: &mut Vec<Unreported>,
     standings: &Standings<'_>,
     stop: Stop,
+    writes: Writes,
     number: usize,
 ) -> Result<(), NoMemory>
     requires { number < length standings.now.records.now }
 {
-    if unreported.len() < MOST_LOST {
+    let write = standings.records[number];
+    if unreported.len() < MOST_LOST && !is_twin(writes, write.no) {
         if let Some(why) = standings.unhelpful(stop, number) {
-            let write = standings.records[number];
             unreported.push(Unreported { write, why })?;
         }
     }
     Ok(())
+}
+
+// Returns the number of the writes of which no reply says whether they were performed, without what a reading adds: a
+// second call of a write, which is never answered.
+fn unreported_count(standings: &Standings<'_>, writes: Writes) -> usize {
+    let mut twins = 0usize;
+    for record in standings.records {
+        if is_twin(writes, record.no) {
+            // A document has too few calls for the sum to reach the greatest number.
+            twins = twins.saturating_add(1);
+        }
+    }
+    standings.unreported().saturating_sub(twins)
 }
 
 // Returns the first few of the writes of which no reply says whether they were performed. Those that were made
@@ -193,15 +226,16 @@ fn unreported_writes(
     alloc: Global,
     standings: &Standings<'_>,
     stop: Stop,
+    writes: Writes,
 ) -> Result<Vec<Unreported>, NoMemory> {
     let records = standings.records;
     let early = records.partition_point(|record| record.call_at < stop.reply_at);
     let mut unreported = Vec::new(alloc);
     for number in (0..early).rev() {
-        add_unreported(&mut unreported, standings, stop, number)?;
+        add_unreported(&mut unreported, standings, stop, writes, number)?;
     }
     for number in early..records.len() {
-        add_unreported(&mut unreported, standings, stop, number)?;
+        add_unreported(&mut unreported, standings, stop, writes, number)?;
     }
     Ok(unreported)
 }
@@ -220,6 +254,7 @@ fn reason_at(
     evidence: Option<Refuted>,
     standings: &Standings<'_>,
     stop: Stop,
+    writes: Writes,
 ) -> Result<Reason, NoMemory> {
     let last = version_spoken_of(standings, stop);
     let shower = match last {
@@ -235,29 +270,30 @@ fn reason_at(
         is_cut,
         last,
         shower,
-        unreported: unreported_writes(alloc, standings, stop)?,
-        unreported_count: standings.unreported(),
+        unreported: unreported_writes(alloc, standings, stop, writes)?,
+        unreported_count: unreported_count(standings, writes),
         is_reported: is_reported(evidence, stop.call.no),
     })
 }
 
-/// Returns why no order explains the document with these records, as a guess for people; `None` if none is
-/// found.
+/// Returns why no order explains the document with these records of what was judged, in which writes were performed so
+/// often, as a guess for people; `None` if none is found.
 pub fn found_reason(
     alloc: Global,
     evidence: Option<Refuted>,
     records: &[Rec],
     conflicts: Conflicts,
+    writes: Writes,
 ) -> Result<Option<Reason>, NoMemory> {
     let standings = Standings::of(alloc, records, conflicts)?;
     match standings.stop() {
-        Some(stop) => Ok(Some(reason_at(alloc, evidence, &standings, stop)?)),
+        Some(stop) => Ok(Some(reason_at(alloc, evidence, &standings, stop, writes)?)),
         None => Ok(None),
     }
 }
 
 /// Returns why no order explains the document of this number, with these records; `None` if it isn't ruled
-/// out.
+/// out. Both are of what was judged, in which writes were performed so often.
 ///
 /// The reason is a guess for people. But if there is one, the document is ruled out (provably not
 /// linearizable): that is checked again, as evidence is.
@@ -266,6 +302,7 @@ pub fn reason_of(
     unexplained: &Unexplained<'_>,
     doc: usize,
     records: &[Rec],
+    writes: Writes,
 ) -> Result<Option<Reason>, NoMemory>
     // If there is a reason, no order explains the document, whatever became of its calls without a reply.
     ensures { IfOk result (λ found. IfSome found (λ _. IsDocumentRuledOut unexplained.now.conflicts unexplained.now.history.now doc)) }
@@ -273,7 +310,7 @@ pub fn reason_of(
     let history = unexplained.history;
     let conflicts = unexplained.conflicts;
     if doc < history.docs() && is_document_ruled_out(alloc, history, doc, conflicts)? {
-        return found_reason(alloc, unexplained.evidence, records, conflicts);
+        return found_reason(alloc, unexplained.evidence, records, conflicts, writes);
     }
     Ok(None)
 }

@@ -1,7 +1,9 @@
+use crate::in_text::{is_twin, record_in_text};
 use doc_register::Conflicts;
-use events::History;
+use events::{History, Rec};
 use evidence::{Certainty, Refuted};
 use places::DocWitness;
+use readings::{Reading, WayBack};
 
 /// What an explanation says of a history that an order explains.
 #[derive(Clone, Copy)]
@@ -12,8 +14,34 @@ pub struct Explained<'h> {
     pub calls: usize,
     /// The number of these that are in no place of the order.
     pub left_out: usize,
-    /// The orders of the documents.
+    /// The number of gets that were judged one by one, if they were.
+    pub gets: Option<usize>,
+    /// The text.
+    pub text: &'h History,
+    /// As what it was read.
+    pub reading: Reading,
+    /// The orders of the documents in what was judged.
     pub witnesses: &'h [DocWitness],
+}
+
+impl<'h> Explained<'h> {
+    /// Returns the way back from what was judged to the text.
+    pub fn back(&self) -> WayBack<'h> {
+        WayBack {
+            text: self.text,
+            writes: self.reading.writes,
+        }
+    }
+
+    /// Returns the call of what was judged as the text has it.
+    pub fn in_text(&self, judged: &Rec) -> Rec {
+        record_in_text(&self.back(), judged)
+    }
+
+    /// Returns whether the call of what was judged is a second one of the same write, which the reading adds.
+    pub fn is_again(&self, judged: &Rec) -> bool {
+        is_twin(self.reading.writes, judged.no)
+    }
 }
 
 /// What an explanation says of a history for which no order was found.

@@ -1,3 +1,4 @@
+use crate::accounts::Account;
 use crate::calls::{Call, EvidenceCalls, call_of, end_of};
 use crate::reason::{Reason, reason_of};
 use crate::subject::Unexplained;
@@ -11,9 +12,9 @@ use version_pair::{DocId, NoMemory};
 pub struct Subject<'h> {
     pub id: &'h DocId,
     pub shard: u32,
-    /// Its calls in the history that the reasons are about.
+    /// Its calls in the part of the text that the reasons are about.
     pub records: Vec<Rec>,
-    // Its calls in the whole history, if that is longer.
+    // Its calls in the whole text, if that is longer.
     whole_records: Option<Vec<Rec>>,
     /// Why no order explains it, if it is ruled out.
     pub reason: Option<Reason>,
@@ -29,7 +30,7 @@ impl<'h> Subject<'h> {
         }
     }
 
-    /// Returns its calls in the whole history.
+    /// Returns its calls in the whole text.
     pub fn all(&self) -> &[Rec] {
         match &self.whole_records {
             Some(records) => records.as_slice(),
@@ -49,8 +50,10 @@ impl<'h> Subject<'h> {
 /// The documents that an explanation is about.
 #[derive(Drop)]
 pub struct Subjects<'h> {
-    /// What the explanation is of.
+    /// What the explanation is of, by the text.
     pub unexplained: Unexplained<'h>,
+    /// The same, and what was judged.
+    pub account: Account<'h>,
     /// The documents of the offence and of the evidence, the offence's first.
     pub list: Vec<Subject<'h>>,
 }
@@ -119,18 +122,37 @@ fn is_evident_early(unexplained: &Unexplained<'_>) -> bool {
     }
 }
 
+// Returns why no order explains the document of this number, by the calls of the text, if it is ruled out.
+fn reason_in_text(
+    alloc: Global,
+    account: &Account<'_>,
+    doc: usize,
+) -> Result<Option<Reason>, NoMemory> {
+    let judged = &account.judged;
+    let history = judged.history;
+    if doc >= history.docs() {
+        return Ok(None);
+    }
+    let records = history.records(doc)?;
+    let writes = account.reading.writes;
+    match reason_of(alloc, judged, doc, &records, writes)? {
+        Some(reason) => Ok(Some(reason.in_text(&account.back()))),
+        None => Ok(None),
+    }
+}
+
 impl<'h> Subjects<'h> {
     /// Returns those of what is explained.
-    pub fn of(alloc: Global, unexplained: &Unexplained<'h>) -> Result<Subjects<'h>, NoMemory> {
+    pub fn of(alloc: Global, account: &Account<'h>) -> Result<Subjects<'h>, NoMemory> {
+        let unexplained = &account.told;
         let history = unexplained.history;
         let is_evident = is_evident_early(unexplained);
         let mut list = Vec::new(alloc);
         for doc in documents_of(alloc, unexplained)?.iter() {
             if *doc < history.docs() {
                 let records = history.records(*doc)?;
-                let reason = reason_of(alloc, unexplained, *doc, &records)?.filter(
-                    |reason| !is_evident || !reason.names_after(unexplained.event),
-                );
+                let reason = reason_in_text(alloc, account, *doc)?.filter(|reason| !is_evident
+                    || !reason.names_after(unexplained.event));
                 let id = history.doc(*doc);
                 list.push(Subject {
                     id,
@@ -143,6 +165,7 @@ impl<'h> Subjects<'h> {
         }
         Ok(Subjects {
             unexplained: *unexplained,
+            account: *account,
             list,
         })
     }

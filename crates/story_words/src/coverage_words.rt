@@ -1,38 +1,30 @@
-use places::DocWitness;
+use events::History;
 use story_blocks::Draft;
 use story_blocks::Word::{Count, Id, Number};
-use story_reasons::{CallKind, Explained, Terms, count_of, overlapping_of, terms_of};
+use story_reasons::{Coverage, Explained, Terms};
+use version_pair::NoMemory;
 
 // The number of documents that are named.
 const MOST_NAMED: usize = 3;
 
-// A document: its number, from 0, and its order.
+// A document: its number, from 0, and the number of its calls.
 #[derive(Clone, Copy)]
-struct Busy<'a> {
+struct Busy {
     doc: usize,
-    witness: &'a DocWitness,
-}
-
-impl Busy<'_> {
-    // Returns the number of its calls.
-    fn calls(self) -> usize {
-        self.witness.records().len()
-    }
+    calls: usize,
 }
 
 // Returns the document with the most calls, the first of several, after the one that was found last.
-fn busiest_after<'a>(witnesses: &'a [DocWitness], last: Option<Busy<'a>>) -> Option<Busy<'a>> {
-    let mut busiest: Option<Busy<'a>> = None;
-    for (doc, witness) in witnesses.iter().enumerate() {
-        let own = Busy { doc, witness };
+fn busiest_after(calls: &[usize], last: Option<Busy>) -> Option<Busy> {
+    let mut busiest: Option<Busy> = None;
+    for (doc, calls) in calls.iter().enumerate() {
+        let own = Busy { doc, calls: *calls };
         let is_left = match last {
-            Some(last) => {
-                own.calls() < last.calls() || own.calls() == last.calls() && doc > last.doc
-            }
+            Some(last) => own.calls < last.calls || own.calls == last.calls && doc > last.doc,
             None => true,
         };
         let is_busier = match busiest {
-            Some(busiest) => own.calls() > busiest.calls(),
+            Some(busiest) => own.calls > busiest.calls,
             None => true,
         };
         if is_left && is_busier {
@@ -43,11 +35,11 @@ fn busiest_after<'a>(witnesses: &'a [DocWitness], last: Option<Busy<'a>>) -> Opt
 }
 
 // Adds the documents with the most calls, as an item.
-fn add_busiest(draft: &mut Draft<'_>, witnesses: &[DocWitness]) {
+fn add_busiest(draft: &mut Draft<'_>, text: &History, calls: &[usize]) {
     draft.say(&["documents with the most calls:"], &[]);
     let mut last = None;
     for i in 0..MOST_NAMED {
-        let Some(busy) = busiest_after(witnesses, last) else {
+        let Some(busy) = busiest_after(calls, last) else {
             break;
         };
         let template = if i == 0 {
@@ -55,33 +47,12 @@ fn add_busiest(draft: &mut Draft<'_>, witnesses: &[DocWitness]) {
         } else {
             ", {} with {}"
         };
-        draft.say(&[template], &[Id(busy.witness.id()), Count(busy.calls())]);
+        if busy.doc < text.docs() {
+            draft.say(&[template], &[Id(text.doc(busy.doc)), Count(busy.calls)]);
+        }
         last = Some(busy);
     }
     draft.end_item();
-}
-
-// What the calls are able to show.
-#[derive(Clone, Copy)]
-struct Coverage {
-    overlapping: usize,
-    gets: usize,
-    performed: usize,
-    conflicts: usize,
-    unanswered: usize,
-    terms: Option<Terms>,
-}
-
-// Returns what the documents' calls are able to show.
-fn coverage_of(witnesses: &[DocWitness]) -> Coverage {
-    Coverage {
-        overlapping: overlapping_of(witnesses),
-        gets: count_of(witnesses, CallKind::Get),
-        performed: count_of(witnesses, CallKind::Performed),
-        conflicts: count_of(witnesses, CallKind::Conflict),
-        unanswered: count_of(witnesses, CallKind::Unanswered),
-        terms: terms_of(witnesses),
-    }
 }
 
 // Adds the primary terms that replies show, as an item.
@@ -134,15 +105,16 @@ fn add_warnings(draft: &mut Draft<'_>, coverage: &Coverage) {
 
 /// Adds what a history that an order explains is able to show, with a warning if that is little. Adds nothing
 /// if there are no calls.
-pub fn add_coverage(draft: &mut Draft<'_>, explained: &Explained<'_>) {
+pub fn add_coverage(draft: &mut Draft<'_>, explained: &Explained<'_>) -> Result<(), NoMemory> {
     if explained.calls == 0 {
-        return;
+        return Ok(());
     }
-    let coverage = coverage_of(explained.witnesses);
+    let coverage = Coverage::of(draft.alloc, explained.text)?;
     draft.heading("What this recording is able to show");
     add_counts(draft, &coverage, explained.calls);
     add_terms(draft, coverage.terms);
-    add_busiest(draft, explained.witnesses);
+    add_busiest(draft, explained.text, &coverage.calls);
     draft.end_list(0, "");
     add_warnings(draft, &coverage);
+    Ok(())
 }

@@ -1,8 +1,9 @@
 use crate::anomaly_words::words_of;
 use evidence::Certainty;
+use readings::Gets;
 use story_blocks::Draft;
 use story_blocks::Word::{Count, Phrase, Version};
-use story_reasons::{AnomalyCount, Damage, LostWrites, Subject, Unexplained, damage_of};
+use story_reasons::{AnomalyCount, Damage, LostWrites, Subjects, damage_of};
 use version_pair::NoMemory;
 
 // Adds an anomaly with the number of its documents, as an item.
@@ -29,9 +30,14 @@ fn add_count(draft: &mut Draft<'_>, count: &AnomalyCount) {
 }
 
 // Adds how many documents are refuted on their own, and what they show.
-fn add_documents(draft: &mut Draft<'_>, damage: &Damage, documents: usize) {
+fn add_documents(draft: &mut Draft<'_>, damage: &Damage, documents: usize, gets: Gets) {
     draft.paragraph(
-        "Documents that are refuted on their own, each by the replies to its own calls: {} of {}. The headline of each, and the lines of the replies that show it:",
+        match gets {
+            Gets::Last =>
+                "Documents that are refuted on their own, each by the replies to its own calls: {} of {}. The headline of each, and the lines of the replies that show it:",
+            Gets::Any =>
+                "Documents that are refuted on their own, each by the replies to its own writes: {} of {}. The headline of each, and the lines of the replies that show it:",
+        },
         &[Count(damage.documents), Count(documents)],
     );
     for count in damage.counts.iter() {
@@ -55,24 +61,30 @@ fn add_lost(draft: &mut Draft<'_>, lost: &LostWrites) {
     );
 }
 
+// Returns that no other document is broken, as far as that was looked for.
+fn none_words(gets: Gets) -> &'static str {
+    match gets {
+        Gets::Last => "No other document is refuted on its own.",
+        Gets::Any => "No other document is refuted by its own writes alone.",
+    }
+}
+
 /// Adds how much is broken beyond the first finding. Adds nothing if it is undecided whether there is an order.
-pub fn add_damage(
-    draft: &mut Draft<'_>,
-    unexplained: &Unexplained<'_>,
-    subjects: &[Subject<'_>],
-) -> Result<(), NoMemory> {
+pub fn add_damage(draft: &mut Draft<'_>, explained: &Subjects<'_>) -> Result<(), NoMemory> {
+    let unexplained = &explained.unexplained;
     if matches!(unexplained.certainty, Certainty::Undecided) {
         return Ok(());
     }
+    let gets = explained.account.reading.gets;
     let documents = unexplained.whole.docs();
-    let damage = damage_of(draft.alloc, unexplained, subjects)?;
+    let damage = damage_of(draft.alloc, explained)?;
     if damage.others > 0 || damage.lost.is_some() {
         draft.heading("How much is broken");
     }
     if damage.others > 0 {
-        add_documents(draft, &damage, documents);
-    } else if subjects.len() < documents {
-        draft.paragraph("No other document is refuted on its own.", &[]);
+        add_documents(draft, &damage, documents, gets);
+    } else if explained.list.len() < documents {
+        draft.paragraph(none_words(gets), &[]);
     }
     if let Some(lost) = &damage.lost {
         add_lost(draft, lost);

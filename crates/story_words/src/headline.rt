@@ -2,11 +2,15 @@ use crate::anomaly_words::words_of;
 use evidence::Certainty;
 use story_blocks::Draft;
 use story_blocks::Word::{Id, Number, Text};
-use story_reasons::{Anomaly, Diagnosis, Unexplained, call_of};
+use story_reasons::{Anomaly, Diagnosis, Subjects, call_of};
 
-// Returns what an explanation is about, as a template that the number of the call is given to.
-fn title_of(certainty: Certainty) -> &'static str {
+// Returns what an explanation is about, as a template that the number of the call is given to. `alone` says that the
+// evidence is of a get that is judged by itself.
+fn title_of(certainty: Certainty, alone: bool) -> &'static str {
     match certainty {
+        Certainty::Evident if alone => {
+            "Nothing explains the reply to a get, whatever copy answered it."
+        }
         Certainty::Evident | Certainty::ReportedRuledOut | Certainty::RuledOut => {
             "The replies contradict one another: no order of the calls explains them."
         }
@@ -47,10 +51,11 @@ pub fn certainty_words(certainty: Certainty) -> &'static str {
 /// What it follows from is then added as the first paragraph. If no anomaly is named, that is the headline.
 pub fn add_headline(
     draft: &mut Draft<'_>,
-    unexplained: &Unexplained<'_>,
+    explained: &Subjects<'_>,
     found: Option<Diagnosis>,
 ) -> String {
-    let title = title_of(unexplained.certainty);
+    let unexplained = &explained.unexplained;
+    let title = title_of(unexplained.certainty, explained.account.is_of_get_alone());
     let number = Number(unexplained.call);
     let named = match found {
         Some(found) if !matches!(found.anomaly, Anomaly::Unnamed) => {

@@ -1,5 +1,6 @@
 use doc_register::{Conflicts, Reply};
 use events::{History, Rec};
+use readings::{ConflictReading, Reading};
 use story_blocks::Draft;
 use story_blocks::Word::Phrase;
 use story_reasons::OrderSearch;
@@ -48,13 +49,20 @@ pub fn add_hidden_write(
     true
 }
 
-/// Adds the line that the history gets if a conflict is read as a write that may have been performed.
+/// Adds the line that the text gets if a conflict is read as a write that may have been performed, and all else
+/// strictly.
 pub fn add_other_reading<S: OrderSearch>(
     draft: &mut Draft<'_>,
     whole: &History,
     search: &S,
 ) -> Result<(), NoMemory> {
-    let line = search.line(draft.alloc, whole, Conflicts::Maybe)?;
+    let reading = Reading {
+        conflicts: ConflictReading::Maybe,
+        ..Reading::strict()
+    };
+    let Some(line) = search.line(draft.alloc, whole, reading, search.ruling_out())? else {
+        return Ok(());
+    };
     if let Ok(line) = str::from_utf8(&line) {
         draft.paragraph(
             "With `--conflicts maybe` this history gets: {}",

@@ -1,7 +1,7 @@
 use crate::link_words::add_link;
 use crate::stop_words::add_stop;
 use crate::unreported_words::add_unreported;
-use doc_register::Conflicts;
+use readings::Reading;
 use story_blocks::Draft;
 use story_blocks::Word::{Number, Reached};
 use story_reasons::Reason;
@@ -24,9 +24,9 @@ fn add_chain(draft: &mut Draft<'_>, reason: &Reason) {
 }
 
 /// Adds the chain of reasons why no order explains a document.
-pub fn add_reason(draft: &mut Draft<'_>, reason: &Reason, conflicts: Conflicts) {
+pub fn add_reason(draft: &mut Draft<'_>, reason: &Reason, reading: Reading) {
     add_chain(draft, reason);
-    add_unreported(draft, reason, conflicts);
+    add_unreported(draft, reason, reading);
     draft.paragraph(
         "So no order has a place for call {} and its reply. This is proved: it holds whatever became of the calls without a reply.",
         &[Number(reason.stop.no)],

@@ -1,14 +1,18 @@
 use events::Rec;
-use story_blocks::Draft;
 use story_blocks::Word::Count;
+use story_blocks::{Draft, EventLines, LostEnding};
 use story_reasons::{Subject, Unexplained};
 
 // The greatest number of writes that are named.
 const MOST_NAMED: usize = 5;
 
-// Whether the call was made up to the event, and no reply says whether it was performed.
-fn is_unreported(unexplained: &Unexplained<'_>, record: &Rec) -> bool {
-    record.call_at <= unexplained.event && !record.is_complete(unexplained.conflicts)
+// Whether the call was made up to the event, and neither a reply nor the recorder says whether it was performed.
+fn is_unreported(lines: &EventLines, unexplained: &Unexplained<'_>, record: &Rec) -> bool {
+    let is_void = match lines.lost(record) {
+        Some(lost) => lost.ending == LostEnding::Void,
+        None => false,
+    };
+    record.call_at <= unexplained.event && !record.is_complete(unexplained.conflicts) && !is_void
 }
 
 // Adds the writes of which no reply says whether they were performed, the last ones first: the first few, and how many
@@ -16,7 +20,7 @@ fn is_unreported(unexplained: &Unexplained<'_>, record: &Rec) -> bool {
 fn add_unreported(draft: &mut Draft<'_>, unexplained: &Unexplained<'_>, records: &[Rec]) -> bool {
     let mut count = 0usize;
     for record in records.iter().rev() {
-        if is_unreported(unexplained, record) {
+        if is_unreported(draft.lines, unexplained, record) {
             if count < MOST_NAMED {
                 let before = if count == 0 {
                     "Of this document these writes before that reply have no reply that says so: "

@@ -1,4 +1,4 @@
-use doc_register::Conflicts;
+use readings::{Reading, Writes};
 use ruled_out::Unhelpful;
 use story_blocks::Word::Version;
 use story_blocks::{Draft, unreported_kind};
@@ -60,18 +60,31 @@ fn add_unhelpful_writes(draft: &mut Draft<'_>, reason: &Reason) {
     draft.end_list(reason.unreported_count, "And {} more.");
 }
 
+// Returns what is said of the writes of which no reply says whether they were performed, as a template that their kind
+// is given to; `None` if there are none that could have to do with it.
+fn template_of(reason: &Reason, writes: Writes) -> Option<&'static str> {
+    match (reason.wants_write(), reason.unreported_count, writes) {
+        (true, 0, Writes::Once) => Some("The document has no write {} that could have done it."),
+        (true, 0, Writes::Repeated) => Some(
+            "The document has no write {} that could have done it, and no write that could have done it if it was performed a second time.",
+        ),
+        (true, _, Writes::Once) => Some("No write {} can have done it:"),
+        (true, _, Writes::Repeated) => Some(
+            "No write that was performed a second time can have done it, and no write {}:",
+        ),
+        (false, 0, _) => None,
+        (false, _, _) => Some("What became of the writes {} plays no part in this."),
+    }
+}
+
 /// Adds the writes of which no reply says whether they were performed, and why none of them helps; nothing if there
 /// are none that could have to do with it.
-pub fn add_unreported(draft: &mut Draft<'_>, reason: &Reason, conflicts: Conflicts) {
-    let wants_write = reason.wants_write();
-    let template = match (wants_write, reason.unreported_count) {
-        (true, 0) => "The document has no write {} that could have done it.",
-        (true, _) => "No write {} can have done it:",
-        (false, 0) => return,
-        (false, _) => "What became of the writes {} plays no part in this.",
+pub fn add_unreported(draft: &mut Draft<'_>, reason: &Reason, reading: Reading) {
+    let Some(template) = template_of(reason, reading.writes) else {
+        return;
     };
-    draft.paragraph(template, &[unreported_kind(conflicts)]);
-    if wants_write && reason.unreported_count > 0 {
+    draft.paragraph(template, &[unreported_kind(reading.conflicts_checked())]);
+    if reason.wants_write() && reason.unreported_count > 0 {
         add_unhelpful_writes(draft, reason);
     }
 }

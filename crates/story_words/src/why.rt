@@ -6,9 +6,12 @@ use crate::reported_calls::add_reported_calls;
 use crate::unreported_words::add_unreported;
 use events::Rec;
 use evidence::Refuted;
+use readings::{Gets, Reading};
 use story_blocks::Draft;
 use story_blocks::Word::{Id, Number};
-use story_reasons::{EvidenceCalls, OrderSearch, Reason, Subject, Unexplained, call_of, record_of};
+use story_reasons::{
+    EvidenceCalls, OrderSearch, Reason, Subject, Subjects, Unexplained, call_of, record_of,
+};
 use version_pair::NoMemory;
 
 // Says that the evidence is of another document than the reply at which the search failed, if it is.
@@ -40,12 +43,7 @@ fn add_other_document<'h>(
 }
 
 // Adds why no order explains the document, if it is ruled out.
-fn add_subject(
-    draft: &mut Draft<'_>,
-    unexplained: &Unexplained<'_>,
-    subject: &Subject<'_>,
-    several: bool,
-) {
+fn add_subject(draft: &mut Draft<'_>, reading: Reading, subject: &Subject<'_>, several: bool) {
     let Some(reason) = &subject.reason else {
         return;
     };
@@ -53,9 +51,9 @@ fn add_subject(
         if several {
             draft.paragraph("Of the document {}:", &[Id(subject.id)]);
         }
-        add_reason(draft, reason, unexplained.conflicts);
+        add_reason(draft, reason, reading);
     } else if reason.wants_write() {
-        add_unreported(draft, reason, unexplained.conflicts);
+        add_unreported(draft, reason, reading);
     }
 }
 
@@ -115,22 +113,23 @@ fn add_late(draft: &mut Draft<'_>, unexplained: &Unexplained<'_>, subject: &Subj
     }
 }
 
-// Adds the reasons of each document, and what may make them look wrong. The history is checked with conflicts read
-// otherwise at most once.
-fn add_subjects<'h, S: OrderSearch>(
+// Adds the reasons of each document, and what may make them look wrong. The text is checked with conflicts read
+// otherwise at most once, and only if all else is read strictly.
+fn add_subjects<S: OrderSearch>(
     draft: &mut Draft<'_>,
-    unexplained: &Unexplained<'h>,
-    subjects: &[Subject<'h>],
+    explained: &Subjects<'_>,
     search: &S,
 ) -> Result<(), NoMemory> {
-    let mut is_checked = false;
-    for subject in subjects {
+    let unexplained = &explained.unexplained;
+    let reading = explained.account.reading;
+    let mut is_checked = reading != Reading::strict();
+    for subject in explained.list.iter() {
         add_late(draft, unexplained, subject);
         if add_hidden(draft, unexplained, subject) && !is_checked {
             is_checked = true;
             add_other_reading(draft, unexplained.whole, search)?;
         }
-        add_subject(draft, unexplained, subject, subjects.len() > 1);
+        add_subject(draft, reading, subject, explained.list.len() > 1);
     }
     Ok(())
 }
@@ -147,22 +146,26 @@ fn have_reasons(subjects: &[Subject<'_>]) -> bool {
 
 /// Adds why no order can have the replies, if it is known: by evidence, and for each document that is ruled
 /// out; then which calls the first line names, if these are others.
-pub fn add_why<'h, S: OrderSearch>(
+pub fn add_why<S: OrderSearch>(
     draft: &mut Draft<'_>,
-    unexplained: &Unexplained<'h>,
-    subjects: &[Subject<'h>],
+    explained: &Subjects<'_>,
     search: &S,
 ) -> Result<(), NoMemory> {
+    let unexplained = &explained.unexplained;
+    let reading = explained.account.reading;
     let evident = evident_calls(unexplained);
-    if evident.is_none() && !have_reasons(subjects) {
+    if evident.is_none() && !have_reasons(&explained.list) {
         return Ok(());
     }
-    draft.heading("Why no order can have these replies");
-    add_other_document(draft, unexplained, subjects);
+    draft.heading(match reading.gets {
+        Gets::Last => "Why no order can have these replies",
+        Gets::Any => "Why nothing explains these replies",
+    });
+    add_other_document(draft, unexplained, &explained.list);
     if let Some(evident) = &evident {
-        add_evidence(draft, evident, unexplained.conflicts);
+        add_evidence(draft, evident, reading);
     }
-    add_subjects(draft, unexplained, subjects, search)?;
+    add_subjects(draft, explained, search)?;
     add_reported_calls(draft, unexplained);
     Ok(())
 }

@@ -1,48 +1,15 @@
 ghost use Rattle.std.specs.Prelude.{◌≡◌, ℕ, Err, IfOk, IfSome, List, MatchResult, Ok, OnErr, OnOk, OnSome, map};
 ghost use Rattle.std.specs.Io.KnownBytes.{Consumes, IsAtEnd};
-ghost use Rattle.history.specs.Reading.{history_text};
-ghost use Rattle.history.specs.Text.{IsHistoryText};
-ghost use Rattle.stream_io.specs.Taken.{TakesHistory, TakesWitness};
+ghost use Rattle.stream_io.specs.Taken.{TakesWitness};
 ghost use Rattle.places.specs.Documents.{doc_places};
 ghost use Rattle.witness.specs.Text.{witness_text};
 
 use api_lines::{CHUNK, InputFault, TextFault};
-use events::{HashKeys, History};
-use history::read_from;
 use places::Place;
 use std::alloc::Global;
 use std::io::Read;
 use version_pair::DocId;
 use witness::read_witness_from;
-
-/// Reads the text of the reader to its end, and returns its history, with these keys; or the first line that
-/// is refused. The reader is asked for 32,768 bytes at a time.
-///
-/// Errors, whichever comes first: `Read` for a fault of the reader of any kind, an interruption included;
-/// `NoMemory`; and inside `Ok` those of `history::read`. The lines before the one at which it stopped are
-/// taken, maybe some bytes of that one, and what the last read returned.
-pub fn read_history<R: Read>(
-    alloc: Global,
-    keys: HashKeys,
-    reader: &mut R,
-) -> Result<Result<History, TextFault>, InputFault>
-    // A history is one that the reader's bytes to their end are a text of, if they are known.
-    ensures text { IfOk result (λ reported. IfSome (R.remaining reader.old)
-        (λ text. IfOk reported (IsHistoryText text))) }
-    // If the reader's bytes are known, the result is what the definition gives for them, as that of
-    // `history::read` is.
-    ensures reported { IfOk result (λ reported. IfSome (R.remaining reader.old) (λ text. MatchResult reported
-        (λ history. history_text text ≡ Ok history)
-        (λ fault. history_text text ≡ Err fault))) }
-    // Whatever the result, no bytes after the first refused line are taken but those that the last read
-    // returned, 32,768 at most.
-    ensures taken { TakesHistory (R.remaining reader.old) (R.remaining reader.new) }
-    // After a history nothing is left in the reader.
-    ensures end { IfOk result (λ reported. OnOk reported (OnSome (R.remaining reader.old)
-        (IsAtEnd (R.remaining reader.new)))) }
-{
-    read_from(alloc, keys, reader)
-}
 
 /// Reads the witness text of the reader to its end, and returns its entries; or the first line that is
 /// refused. The reader is asked for 32,768 bytes at a time.

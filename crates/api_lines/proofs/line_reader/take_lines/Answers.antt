@@ -1,4 +1,4 @@
-use Rattle.std.proofs.Common.{arith, rules, ℕ, List, Option, Result, ◌≡◌, ◌<◌, ◌+◌, ◌∙◌, [], ap, inl, inr, length, subst, sym, Ok, Err, IfOk, IfSome, OnOk}
+use Rattle.std.proofs.Common.{arith, rules, ℕ, List, Option, Result, ◌≡◌, ◌<◌, ◌+◌, ◌++◌, ◌∷◌, ◌∙◌, [], ap, inl, inr, length, subst, sym, Ok, Err, IfOk, IfSome, OnOk}
 use Rattle.std.specs.Prelude.{IfErr, MatchResult, OnSome}
 use Rattle.std.specs.Io.KnownBytes.{IsAtEnd, Keeps, prepend_known}
 use Rattle.std.proofs.KnownBytes.{prepend_known-nil}
@@ -6,7 +6,8 @@ use Rattle.serde_json.specs.Data.{Data}
 use Rattle.api_lines.proofs.InputLemmas.{IsReadOn, next_counts, none_taken, on_all, on_end, on_kept, on_line, on_more, on_none, on_past_last, on_stop, on_stopped}
 use Rattle.api_lines.specs.Faults.{IfTextReported}
 use Rattle.api_lines.specs.Lines.{HasNoLineFeed, lines_of, most_lines}
-use Rattle.api_lines.specs.Texts.{SoFar, next_line, read_lines, so_far}
+use Rattle.api_lines.specs.Texts.{IsReadTo, SoFar, next_line, read_lines, so_far}
+use Rattle.api_lines.proofs.LineByLine.{reads_line_by_line}
 use Rattle.api_lines.specs.declared.line_reader.RefusedLine.{RefusedLine}
 use Rattle.api_lines.specs.declared.text_fault.ReadFault.TheVariants as refusal
 use Rattle.api_lines.specs.declared.text_fault.TextCause.{TextCause}
@@ -23,10 +24,22 @@ begins takes input chunk r empty none =
     subst (λ old. IsReadOn takes r.state input old r) (sym (ap (λ l. prepend_known l input) empty ∙ prepend_known-nil input))
     (subst (λ n. IsReadOn takes r.state input input (so_far r.state n)) (sym none) (on_none takes r.state input))
 
+-- no line is those of the empty text
+no_text : {S : Type 0} (takes : S → Data → Result S TextCause) (r : SoFar S) → r.lines ≡ 0 → (text : List ℕ) × IsReadTo takes r.state text r
+no_text takes r none = ([], subst (λ n. IsReadTo takes r.state [] (so_far r.state n)) (sym none) (reads_line_by_line takes r.state).none)
+
+-- one line more is those of a longer text
+more_text : {S : Type 0} (takes : S → Data → Result S TextCause) (start : S) (line : List ℕ) (r q : SoFar S)
+    → (text : List ℕ) × IsReadTo takes start text r → HasNoLineFeed line → next_line takes r line ≡ Ok q
+    → (text : List ℕ) × IsReadTo takes start text q
+more_text takes start line r q some unfed next =
+    (some.0 ++ (line ++ 10 ∷ []), (reads_line_by_line takes start).more some.0 line r q some.1 unfed next)
+
 pub loop-init : goal.loop-init
 loop-init g c = record {
   read = begins g.L.LineReader.takes (g.R.Read.remaining c.args.input.now) c.in_ok-chunk.chunk (g.L.LineReader.reached c.args.reader.now) c.in_ok-chunk.ensures c.requires;
   count = c.requires;
+  some = no_text g.L.LineReader.takes (g.L.LineReader.reached c.args.reader.now) c.requires;
 }
 
 pub returns-in_err-next_line-clause-taken : goal.returns-in_err-next_line-clause-taken
@@ -98,6 +111,9 @@ loop-preserved g c =
       count =
           next_counts g.L.LineReader.takes (g.L.LineReader.reached c.loop.reader) (g.L.LineReader.reached c.line.new.self) c.next_line.new.line.items next
           ∙ ap (λ n. n + 1) c.loop.invariant.count;
+      some =
+          more_text g.L.LineReader.takes (g.L.LineReader.reached c.args.reader.now).state c.next_line.new.line.items
+          (g.L.LineReader.reached c.loop.reader) (g.L.LineReader.reached c.line.new.self) c.loop.invariant.some c.in_ok-next_line.ensures.unfed next;
     }
 
 -- what is reported behind the most lines

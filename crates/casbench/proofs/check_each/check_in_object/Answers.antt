@@ -13,8 +13,8 @@ returns-clause-answered g c =
     let input = g.S.Read.remaining c.args.source.now in
     record {
       line = line_of reported;
-      named = c.in_ok-details_object.ensures c.args.options.conflicts input c.in_ok-details.ensures.proved;
-      answers = subst (λ (s : Status). AnswersInput c.args.options.ruling_out c.args.options.conflicts input s (line_of reported)) (sym c.status_of.ensures) c.in_ok-details.ensures.answer;
+      named = c.in_ok-details_object.ensures input c.in_ok-details.ensures.proved;
+      answers = subst (λ (s : Status). AnswersInput c.args.options.ruling_out c.args.options.reading input s (line_of reported)) (sym c.status_of.ensures) c.in_ok-details.ensures.answer;
       counted = IfSome_then input c.in_ok-details.ensures.calls (λ bytes counts.
           subst (λ (n : Option ℕ). CountsCalls bytes c.status_of.result n) (sym c.calls_reported.ensures)
           (subst (λ (s : Status). CountsCalls bytes s (calls_reported reported)) (sym c.status_of.ensures) counts));

@@ -10,15 +10,17 @@ returns c =
       file = c.args.name;
       witness = None;
       proved = details.proved;
+      reading = c.named_reading.result;
       broken_reply = details.broken_reply;
       explanation = c.args.explanation;
       milliseconds = c.args.milliseconds;
     } in
-    IfOk-weaker c.object_line.result _ _ (λ text is. λ conflicts input proved. record {
+    IfOk-weaker c.object_line.result _ _ (λ text is. λ input proved. record {
       reported = details.reported;
       facts = facts;
       says = refl;
       named = refl;
       proved = proved;
+      by_reading = c.named_reading.ensures;
       written = is;
     }) c.object_line.ensures

@@ -10,6 +10,6 @@ returns-clause-answered g c =
     let line = line_of found.details.reported in
     let input = g.R.Read.remaining c.args.history.now in (
       line,
-      subst (λ (s : Status). AnswersInput c.args.options.ruling_out c.args.options.conflicts input s line) (sym c.status_of-status.ensures) c.in_ok-found.ensures.answer,
-      c.in_ok-text.ensures c.args.options.conflicts input c.in_ok-found.ensures.proved,
+      subst (λ (s : Status). AnswersInput c.args.options.ruling_out c.args.options.reading input s line) (sym c.status_of-status.ensures) c.in_ok-found.ensures.answer,
+      c.in_ok-text.ensures input c.in_ok-found.ensures.proved,
     )

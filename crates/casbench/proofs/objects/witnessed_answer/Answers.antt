@@ -8,10 +8,11 @@ use Rattle.casbench.proofs.ObjectLemmas.{answered_in_json}
 use Rattle.casbench.proofs.objects.witnessed_answer.Goals as goal
 
 pub returns-in_ok-text-in-Answered : goal.returns-in_ok-text-in-Answered
-returns-in_ok-text-in-Answered c = λ ruling conflicts input is.
+returns-in_ok-text-in-Answered c = λ ruling input is.
+    let reading = c.args.reading in
     let reported = c.in-Answered.details.reported in
     let text = c.in_ok-text-in-Answered.text.items in
-    let both = subst (IsWitnessedBy ruling conflicts input) c.in-Answered.is is in
-    subst (λ (s : Status). IsWitnessInJson c.args.name.now ruling conflicts input s text) (sym c.status_of-status.ensures)
-    (answered_in_json c.args.name.now ruling conflicts input (status_of reported) (line_of reported) text both.0 both.1
-    (c.in_ok-text-in-Answered.ensures conflicts (Some input) both.2))
+    let both = subst (IsWitnessedBy ruling reading input) c.in-Answered.is is in
+    subst (λ (s : Status). IsWitnessInJson c.args.name.now ruling reading input s text) (sym c.status_of-status.ensures)
+    (answered_in_json c.args.name.now ruling reading input (status_of reported) (line_of reported) text both.0 both.1
+    (c.in_ok-text-in-Answered.ensures (Some input) both.2))
