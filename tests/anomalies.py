@@ -188,6 +188,21 @@ WAYS = {
 }
 
 
+# What "First rule out" says that a healthy OpenSearch does, of the anomalies that this makes; nothing of the others.
+DOCUMENTED = {
+    "Stale read": "may be answered by any copy, but one in sync has what was acknowledged before the get was made",
+    "Acknowledged write not seen": "a delete that its coordinating node sent again",
+    "Acknowledged write lost": "a write without a condition that its coordinating node sent again",
+    "Shown and taken back": "may be answered by any copy, and one copy shows a write that is not acknowledged yet",
+    "Lost update": "it is tested against the primary's own state, which may hold a write that is lost later",
+    "Condition not honoured": "",
+    "One version given twice": "",
+    "Read of something nobody wrote": "its coordinating node sends a write again after it lost the connection",
+    "Version that nobody wrote": "its coordinating node sends a write again after it lost the connection",
+    "Conflict without a cause": "the second attempt meets a conflict with the first one",
+}
+
+
 def drawn(make_wrong, seed):
     """A recording with a fault that is made so, and the line of the wrong reply."""
     recording = Recording(seed)
@@ -215,9 +230,15 @@ class Anomalies(ProgramTest):
         cited = [int(it) for it in re.findall(r"\blines? (\d+)", reasons)]
         self.assertNotEqual(cited, [])
         self.assertLessEqual(max(cited), line)
+        self.check_documented(more[more.index("First rule out:") + 1], DOCUMENTED[anomaly])
+
+    def check_documented(self, rule_out, documented):
+        """What is to be ruled out has what OpenSearch documents, and says nothing of it if there is nothing."""
+        self.assertIn(documented, rule_out)
+        self.assertEqual("OpenSearch" in rule_out, documented != "")
 
     def test_anomalies(self):
-        """The headline and the reasons of each."""
+        """The headline and the reasons of each, and what OpenSearch documents of it."""
         rows = [(f"{it}, {seed}", it, seed) for it in WAYS for seed in range(self.each)]
         self.run_subtests(self.check_drawn, rows)
 

@@ -27,10 +27,18 @@ from case_files import case_text
 from program import TOP
 from program_test import ProgramTest, run_tests
 from running import SECONDS, ended, run, run_arguments, search_arguments, started
-from texts import READ_FAULT, SETTING_FAULT, WRITE_FAULT, get, no, no_calls, refused, refuted, status_of, too_few, verified
-from texts import yes
+from readings import PROFILES
+from texts import READ_FAULT, SETTING_FAULT, WRITE_FAULT, created, found, get, index, no, no_calls, no_writer
+from texts import refused, refuted, status_of, too_few, updated, verified, yes
 
 EXAMPLES = TOP / "examples"
+
+# Histories that readings tell apart: two gets are answered by two copies, one of which lacks a write in flight; a
+# write is performed again, with the next pair; and a get finds the write of a call that is marked as void.
+COPIES = index(0) + created(0, 1, 0) + index(1, k=2)
+COPIES += get(2) + found(2, 1, 1, k=2) + get(3) + found(3, 1, 0) + updated(1, 1, 1)
+AGAIN = index(0) + get(1) + found(1, 1, 0) + updated(0, 1, 1)
+VOID = index(0) + '{"e":"lost","n":0,"void":true}\n' + get(1) + found(1, 1, 0)
 
 # The files of the folder; `broken` is a directory, which opens but can't be read, and `packed.gz` is compressed. All of
 # the odd names have one text.
@@ -40,6 +48,9 @@ FILES = {
     "verify": b"",
     "story": (EXAMPLES / "stale-get.ndjson").read_bytes(),
     "hidden": case_text("hidden-conflict").encode(),
+    "copies": COPIES.encode(),
+    "again": AGAIN.encode(),
+    "void": VOID.encode(),
     "packed.gz": gzip.compress(case_text("index-then-get").encode()),
     "one": get(0).encode(),
     "torn": b"{\n",
@@ -70,6 +81,31 @@ STALE = refuted("stale-get", "3,1", 7, 3)
 LISTED = "casbench: what was not judged is listed in {}.not-judged\n"
 
 VERSION = "casbench 0.1.0\n"
+
+# The commands that have --rule-out, and those that take a reading, of a file that isn't there.
+RULING_OUT = ("check", "witness", "explain")
+READING_COMMANDS = ("check absent", "witness absent", "explain absent", "verify absent lost")
+
+# The values of each option of a reading, in the order of the help.
+READ_BY = {
+    "profile": ("strict", "opensearch"),
+    "gets": ("last", "any"),
+    "conflicts": ("plain", "maybe", "unknown"),
+    "writes": ("once", "repeated"),
+    "failed": ("lost", "trusted"),
+}
+
+
+def option_shown(name):
+    """The option of a reading as messages and the help have it."""
+    return f"--{name} <{'NAME' if name == 'profile' else 'READING'}>"
+
+
+def weakest(command):
+    """The command with the last value of each option of a reading."""
+    return " ".join([command, *(f"--{name}={values[-1]}" for name, values in READ_BY.items())])
+
+
 
 # Arguments, and the status, standard output and standard error that they get.
 ANSWERED = [
@@ -163,6 +199,14 @@ ANSWERED = [
     ("explain empty --html empty", 4, "", f"casbench: empty: the history would be overwritten\n{WRITE_FAULT}"),
     ("explain empty --html absent/page", 4, "", absent("absent/page", WRITE_FAULT)),
     ("explain absent --html page", 4, "", absent("absent", READ_FAULT)),
+    # readings: each value is accepted, also beside the others
+    *(
+        (f"{command} --{name} {value}", 4, "", absent("absent", READ_FAULT))
+        for command in READING_COMMANDS
+        for name, values in READ_BY.items()
+        for value in values
+    ),
+    *((weakest(command), 4, "", absent("absent", READ_FAULT)) for command in READING_COMMANDS),
     # runs: these arguments are accepted, but nine clients are too many
     *(
         (run_arguments(seed=2**64 - 1, clients=9, calls=200, docs=3, copies=5, fault=fault), 64, "", SETTING_FAULT)
@@ -179,12 +223,55 @@ ANSWERED = [
     ),
 ]
 
+# Arguments with a reading, and how the answer begins.
+OLD_COPY, HIDDEN, UNWRITTEN = no(6, 3), no(3, 2), refuted("no-writer", 1, 3, 0)
+RULED_OUT = "refuted kind=ruled-out calls=2 event=3 call=2 "
+READ = [
+    ("check copies", OLD_COPY),
+    ("check copies --gets last", OLD_COPY),
+    ("check copies --gets any", "yes docs=1 calls=4 left_out=0 gets=2\n"),
+    ("check hidden --conflicts plain", HIDDEN),
+    ("check hidden --conflicts maybe", ANSWER),
+    ("check hidden --conflicts unknown", yes(2, left_out=1)),
+    ("check again", UNWRITTEN),
+    ("check again --writes once", UNWRITTEN),
+    ("check again --writes repeated", ANSWER),
+    ("check void", ANSWER),
+    ("check void --failed lost", ANSWER),
+    ("check void --failed trusted", no_writer(3, 1)),
+    # profiles
+    ("check copies --profile strict", OLD_COPY),
+    ("check copies --profile opensearch", "yes docs=1 calls=4 left_out=0 gets=2\n"),
+    ("check hidden --profile strict", HIDDEN),
+    ("check hidden --profile opensearch", "yes docs=1 calls=2 left_out=1 gets=0\n"),
+    ("check again --profile opensearch", "yes docs=1 calls=2 left_out=0 gets=1\n"),
+    ("check void --profile opensearch", "refuted kind=no-writer calls=1 "),
+    # an option beside a profile overrides that part of it, and no other; documents are still ruled out
+    ("check copies --gets any --profile strict", "yes docs=1 calls=4 left_out=0 gets=2\n"),
+    ("check hidden --profile strict --conflicts maybe", ANSWER),
+    ("check again --profile strict --writes repeated", ANSWER),
+    ("check void --profile strict --failed trusted", no_writer(3, 1)),
+    ("check copies --profile opensearch --gets last", refuted("ruled-out", 3, 6, 3)),
+    ("check again --profile opensearch --writes once", "refuted kind=no-writer calls=1 "),
+    ("check void --profile opensearch --failed lost", "yes docs=1 calls=2 left_out=1 gets=1\n"),
+    *(
+        (f"{command} hidden --conflicts plain --profile opensearch --writes once", RULED_OUT)
+        for command in RULING_OUT
+    ),
+]
+
 UNKNOWN = "unexpected argument '{}' found"
 COMMAND = "unrecognized subcommand '{}'"
 TWICE = "the argument '{}' cannot be used multiple times"
 NO_VALUE = "a value is required for '{}' but none was supplied"
 A_VALUE = "unexpected value '{}' for '{}' found; no more were expected"
-READING = "the value of --conflicts is plain or maybe"
+VALUES = {
+    "profile": "the value of --profile is strict or opensearch",
+    "gets": "the value of --gets is last or any",
+    "conflicts": "the value of --conflicts is plain, maybe or unknown",
+    "writes": "the value of --writes is once or repeated",
+    "failed": "the value of --failed is lost or trusted",
+}
 FAULT = "the value of --fault is none, dirty, early, same-term, stale or blind"
 DISTURBANCE = "the value of --disturb is none, cuts, promotions or storm"
 RUN = "run --seed {} --clients {} --calls 200 --docs 3 --copies 5"
@@ -214,8 +301,27 @@ def wrong_numbers(command, option, name):
     yield f"{command} {option}=1 {option}=1", TWICE.format(name)
 
 
-# The commands that have --rule-out.
-RULING_OUT = ("check", "witness", "explain")
+def read_as_nothing():
+    """Arguments with options of a reading that are refused, and how the message begins."""
+    for name, wanted in VALUES.items():
+        shown, first = option_shown(name), READ_BY[name][0]
+        for command in READING_COMMANDS:
+            yield f"{command} --{name}=no", wanted
+            yield f"{command} --{name}", NO_VALUE.format(shown)
+            yield f"{command} --{name}={first} --{name}={first}", TWICE.format(shown)
+        for value in ("''", first.capitalize(), f"{first}x", "plain,maybe"):
+            yield f"check --{name} {value}", wanted
+        yield f"bulk b r --{name}={first}", UNKNOWN.format(f"--{name}")
+        yield f"{run_arguments()} --{name}={first}", UNKNOWN.format(f"--{name}")
+        yield f"--{name} {first}", UNKNOWN.format(f"--{name}")
+    # of several the first is named, wherever it stands, and beside a profile too
+    names = list(VALUES)
+    for at, name in enumerate(names):
+        unknown = " ".join(f"--{it}=no" for it in reversed(names[at:]))
+        yield f"check h {unknown}", VALUES[name]
+        if at:
+            yield from ((f"check h {unknown} --profile {profile}", VALUES[name]) for profile in PROFILES)
+
 
 # Arguments that are refused, and how the message begins behind `error: `.
 REFUSED = [
@@ -242,7 +348,7 @@ REFUSED = [
     ("explain --html p --lines 1-2", NO_DOCUMENT),
     *((f"explain --html p --document d --lines {it}", LINES) for it in ("2-1", "1", "1-", "1-2-3", "a-b", "''")),
     ("explain --html p --document d --lines 1-18446744073709551616", LINES),
-    ("explain --html p --document d --conflicts no", READING),
+    ("explain --html p --document d --conflicts no", VALUES["conflicts"]),
     # numbers of workers
     ("check --workers 0", wrong("0", "--workers <N>")),
     ("check --workers 17", wrong("17", "--workers <N>")),
@@ -262,15 +368,8 @@ REFUSED = [
     ("check --json --json", TWICE.format("--json")),
     ("verify h w --at-least 1", UNKNOWN.format("--at-least")),
     ("--at-least 1", UNKNOWN.format("--at-least")),
-    # readings of conflicts
-    ("check h --conflicts Maybe", READING),
-    ("check --conflicts=", READING),
-    ("check h --conflicts", NO_VALUE.format("--conflicts <READING>")),
-    ("witness --conflicts other", READING),
-    ("verify h w --conflicts=no", READING),
-    ("check --conflicts=maybe --conflicts=maybe", TWICE.format("--conflicts <READING>")),
-    ("bulk b r --conflicts=maybe", UNKNOWN.format("--conflicts")),
-    ("--conflicts maybe", UNKNOWN.format("--conflicts")),
+    # readings
+    *read_as_nothing(),
     # what else is looked for
     *((f"{command} --rule-out --rule-out", TWICE.format("--rule-out")) for command in RULING_OUT),
     *((f"{command} --rule-out=x", A_VALUE.format("x", "--rule-out")) for command in RULING_OUT),
@@ -328,6 +427,12 @@ HELP = [(form, example) for form in ("help", "--help", "-h") for example in EXAM
 FORMS = ("help {}", "{} --help", "{} -h")
 HELP += [(form.format(name), example) for form in FORMS for name, example in EXAMPLE.items()]
 HELP += [(form.format(name), "\n      --rule-out ") for form in FORMS for name in RULING_OUT]
+HELP += [
+    (form.format(command.split()[0]), f"\n      {option_shown(name)}")
+    for form in FORMS
+    for command in READING_COMMANDS
+    for name in READ_BY
+]
 HELP += [("--help", "\nExit status:\n  0   yes"), ("--help", "\n  6   yes, with fewer calls")]
 HELP += [(form.format("check"), "\n      --at-least <CALLS>") for form in FORMS]
 HELP += [(form.format(name), "\n      --json ") for form in FORMS for name in ("check", "witness", "verify")]
@@ -474,12 +579,31 @@ class Arguments(ProgramTest):
         """The arguments get what is wanted, and no file is made or changed."""
         self.run_rows(self.check_answered, ANSWERED)
 
+    def check_read(self, folder, arguments, wanted):
+        status, out, why = self.ran(arguments, folder)
+        self.assertEqual((status, out[: len(wanted)], why), (status_of(wanted), wanted, ""))
+
+    def test_read(self):
+        """A history is read as its options say."""
+        self.run_rows(self.check_read, READ)
+
     def check_refused(self, folder, arguments, wanted):
         status, out, why = self.ran(arguments, folder)
         self.assertEqual((status, out, why[: len(f"error: {wanted}")]), (64, "", f"error: {wanted}"))
 
     def test_refused(self):
         self.run_rows(self.check_refused, REFUSED)
+
+    def check_usage(self, folder, arguments, command):
+        _, _, why = self.ran(arguments, folder)
+        self.assertIn(f"\nUsage: casbench {command} ", why)
+
+    def test_usage(self):
+        """An option with an unknown value, or given twice, is refused with the usage of its command."""
+        commands = ["check", "witness", "verify h w", "explain"]
+        twice = [(f"{it} --gets last --gets last", it.split()[0]) for it in commands]
+        unknown = [(f"{it} --{name} no", it.split()[0]) for it in commands for name in READ_BY]
+        self.run_rows(self.check_usage, [*twice, *unknown, (run_arguments(fault="no"), "run")])
 
     def test_suggestion(self):
         """Arguments that begin with a file get the command by which it is checked."""

@@ -100,6 +100,9 @@ class Known:
     def __init__(self, called, call):
         self.called, self.number, self.doc, self.op = called, call.number, call.doc, call.op
         self.replied, self.reply = None, None
+        # Of a call without a reply: the place from which on it isn't performed any more, and the number of an answered
+        # call before which it is, if there is one.
+        self.over, self.ahead_of = float("inf"), None
 
 
 def known_calls(events):

@@ -40,10 +40,13 @@ def one_shard(_):
 
 
 class Ranked(NamedTuple):
-    """A call with ranks for pairs; if it was not answered there is no reply, and its place is behind all."""
+    """A call with ranks for pairs; if it was not answered there is no reply, and its place is behind all. It stands
+    before each call that was made from a place on, and before one of these calls, if one is named by its index."""
 
     called: int
     replied: float
+    over: float
+    ahead_of: int
     doc: int
     shard: int
     op: Op
@@ -78,6 +81,7 @@ class Search:
         self.count = 2 * len(pairs) + 1
         # An unanswered get can be left out of each order.
         kept = [it for it in calls if it.reply or it.op.name != "get"]
+        self.answered = {it.number: at for at, it in enumerate(kept) if it.reply}
         shards = sorted({shard_of(it.doc) for it in kept})
         self.calls = [self.ranked(it, reading, shards.index(shard_of(it.doc))) for it in kept]
         self.shown = [self.at(it, pair_taken(it.reply)) for it in self.calls if pair_taken(it.reply)]
@@ -88,7 +92,8 @@ class Search:
         reply = call.reply and call.reply._replace(pair=self.ranks[call.reply.pair])
         replied = float("inf") if reply is None else call.replied
         op = call.op._replace(condition=self.ranks[call.op.condition])
-        return Ranked(call.called, replied, call.doc, shard, op, reply, has_known_outcome(call, reading))
+        over, ahead_of = call.over, self.answered.get(call.ahead_of)
+        return Ranked(call.called, replied, over, ahead_of, call.doc, shard, op, reply, has_known_outcome(call, reading))
 
     def at(self, call, rank):
         """Where the rank stands among those of all shards, for a call."""
@@ -115,9 +120,16 @@ class Search:
             return True
         if after not in self.failed:
             self.failed.add(after)
-            able = [it for it in after.left if self.calls[it].called < min(answered)]
+            able = [it for it in after.left if self.calls[it].called < min(answered) and self.is_in_time(after, it)]
             return any(self.goes_on(it) for number in able for it in self.steps(after, number))
         return False
+
+    def is_in_time(self, after, number):
+        """Whether the call still stands before those before which it has to stand."""
+        call = self.calls[number]
+        if call.ahead_of is not None and call.ahead_of not in after.left:
+            return False
+        return all(it.called < call.over for at, it in enumerate(self.calls) if at not in after.left)
 
     def steps(self, after, number):
         """What is left if the call stands next, in each way that it can."""

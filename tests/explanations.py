@@ -6,7 +6,8 @@ It is no test itself.
 import re
 
 # The headings of the reasons, and of what may come behind them.
-REASONS, DAMAGE, RULE_OUT = "Why no order can have these replies:", "How much is broken:", "First rule out:"
+REASONS, PROFILE = "Why no order can have these replies:", "By what OpenSearch documents:"
+DAMAGE, RULE_OUT = "How much is broken:", "First rule out:"
 
 # A headline that names an anomaly, with its line.
 HEADLINE = re.compile(r"(?P<anomaly>[^:\n]+): .*, line (?P<line>\d+)( at [^)]*)?\)\.")
@@ -29,7 +30,7 @@ def reasons(story):
     if REASONS not in lines:
         return ""
     begin = lines.index(REASONS)
-    end = min((lines.index(it, begin) for it in (DAMAGE, RULE_OUT) if it in lines), default=len(lines))
+    end = min((lines.index(it, begin) for it in (PROFILE, DAMAGE, RULE_OUT) if it in lines), default=len(lines))
     return "\n".join(it for it in lines[begin:end] if not it.startswith(BESIDE))
 
 

@@ -1,6 +1,5 @@
 #!/usr/bin/env python3
-"""Draws recordings of a simulated OpenSearch cluster, and has them judged under the reading for it. The program takes no
-reading yet: `reading_answers.py` gives it each history as the reading turns it, and judges the gets.
+"""Draws recordings of a simulated OpenSearch cluster, and has them judged under the profile for it.
 
     python3 tests/opensearch.py [PROGRAM]
     python3 tests/opensearch.py --seed 7 [--fault NAME]
@@ -9,6 +8,8 @@ The second one writes a recording, and what is known of it to standard error. PR
 named, the one that ./casbench would run. Of a cluster that does what its documentation says each recording has to get
 `yes`, and its witness has to be verified. Of one with a fault each recording in which a rule of the profile is seen to
 be broken has to be refuted by such a rule, and nine of ten of those of compare-and-set in which the fault came about.
+Each answer to one with a fault is also that of a strict check of what the profile makes of the history, with the gets
+judged by themselves.
 """
 
 import random
@@ -21,7 +22,7 @@ from typing import NamedTuple
 from drawing import CONFLICT, Call, Ending, Op, pair_taken
 from evidence import known_calls
 from program_test import ProgramTest, run_tests
-from reading_answers import HAS_OPTIONS, check, counts_of, verify, witness_of_text
+from reading_answers import answer_by_strict_check, check, counts_of, verify, witness_of_text
 from readings import OPENSEARCH, STRICT, History, numbers_read, read_as, records_read, text_of, unexplained_gets
 from simulated_cluster import NOTHING, UNAVAILABLE, Clock, Cluster, GetRequest, Write, WriteRequest
 from texts import witness_of
@@ -485,14 +486,10 @@ def explained(program, text):
         return "no"
     witness = witness_of_text(program, text, OPENSEARCH)
     line = verify(program, text, witness, OPENSEARCH)
-    counts = answer.line.removeprefix("yes ").partition(" gets=")[0].rstrip()
-    if answer.word != "yes" or line.partition(" gets=")[0].rstrip() != f"verified {counts}":
-        raise AssertionError(f"{answer}, and of the witness {line}")
-    if HAS_OPTIONS:
-        docs, calls, left_out, gets = counts_of(OPENSEARCH, text, witness)
-        wanted = f"yes docs={docs} calls={calls} left_out={left_out} gets={gets}\n"
-        if answer.line != wanted:
-            raise AssertionError(f"{answer.line}, and not {wanted}")
+    docs, calls, left_out, gets = counts_of(OPENSEARCH, text, witness)
+    counts = f"docs={docs} calls={calls} left_out={left_out} gets={gets}\n"
+    if answer.line != f"yes {counts}" or line != f"verified {counts}":
+        raise AssertionError(f"{answer}, and of the witness {line}, and not {counts}")
     return "yes"
 
 
@@ -513,7 +510,10 @@ def judged_faulty(program, seed):
     faults = fault_of(seed)()
     settings = faulty_settings(seed, type(faults))
     history = Recording(seed, settings, faults).history()
-    answer, rules = check(program, text_of(history), OPENSEARCH), rules_broken(history)
+    text, rules = text_of(history), rules_broken(history)
+    answer, strictly = check(program, text, OPENSEARCH), answer_by_strict_check(program, text, OPENSEARCH)
+    if (answer.word, answer.kind) != (strictly.word, strictly.kind):
+        raise AssertionError(f"{answer}, and by a strict check {strictly}")
     if rules and answer.kind not in rules or not faults.came_about() and answer.word != "yes":
         raise AssertionError(f"{answer}, broken are {rules}, and the fault came about: {faults.came_about()}")
     seen = SEEN if rules else NOT_SEEN if faults.came_about() else NOT_MADE

@@ -1,7 +1,7 @@
 """What the program answers to a history in a reading: the one place where the tests of readings ask it.
 
-It is no test itself. Without the options of readings the program is asked, strictly, of the text that tests/readings.py
-makes of a history, and the gets that are judged one by one are judged there.
+It is no test itself. `answer_by_strict_check` has a strict check judge the text that tests/readings.py makes of a
+history, and judges the gets itself: so an answer in a reading is compared without an exact search.
 """
 
 import json
@@ -14,9 +14,6 @@ from readings import OPENSEARCH, conflicts_read, history_of, number_in_text, num
 from readings import text_of, unexplained_gets
 from running import bytes_of, run, run_on_files, said
 from texts import OFFENCE, status_of
-
-# Whether the program has the options of readings.
-HAS_OPTIONS = False
 
 
 class Answer(NamedTuple):
@@ -36,44 +33,28 @@ def answer_of_line(line):
 
 
 def options_of(reading):
-    """The options that ask for the reading, without --rule-out."""
-    if not HAS_OPTIONS:
-        return ["--conflicts", conflicts_read(reading)]
+    """The options that ask for the reading: those of the profile, if it is one."""
     return ["--profile", "opensearch"] if reading == OPENSEARCH else reading.options()
 
 
-def text_asked(reading, text):
-    """The text of which the program is asked."""
-    return text if HAS_OPTIONS else text_of(strict_history(reading, history_of(text)))
-
-
-def as_read(reading, text, line):
-    """The answer to a text, if the program writes this line of what it is asked."""
-    answer = answer_of_line(line)
-    if HAS_OPTIONS or answer.word == "refused":
-        return answer
-    history = history_of(text)
-    answer = answer._replace(calls=tuple(number_in_text(reading, history.events, it) for it in answer.calls))
-    if answer.kind not in (None, "ruled-out"):
-        return answer
-    # (a document is ruled out only if there is no other evidence)
-    kind, calls = next(unexplained_gets(reading, history.voids, history.events), (None, ()))
-    return Answer("refuted", kind, calls, line) if kind else answer
-
-
-def check_all(program, texts, reading):
-    """The answers to some texts, of which the program is asked at once."""
+def lines_of_check(program, texts, options):
+    """The lines that a check with --rule-out writes of some texts, of which the program is asked at once."""
     with tempfile.TemporaryDirectory() as folder:
         files = [pathlib.Path(folder) / str(at) for at, _ in enumerate(texts)]
         for file, text in zip(files, texts):
-            file.write_bytes(bytes_of(text_asked(reading, text)))
-        status, out = said(run(program, ["check", "--rule-out", *options_of(reading), *files]))
+            file.write_bytes(bytes_of(text))
+        status, out = said(run(program, ["check", "--rule-out", *options, *files]))
     lines = out.splitlines(keepends=True)
     if len(texts) > 1:
         lines = [it.removeprefix(f"{file}: ") for file, it in zip(files, lines)]
     if len(lines) != len(texts) or status != max(map(status_of, lines)):
         raise AssertionError(f"status {status}, and {len(lines)} lines for {len(texts)} texts: {out[:300]}")
-    return [as_read(reading, text, line) for text, line in zip(texts, lines)]
+    return lines
+
+
+def check_all(program, texts, reading):
+    """The answers to some texts, of which the program is asked at once."""
+    return [answer_of_line(it) for it in lines_of_check(program, texts, options_of(reading))]
 
 
 def check(program, text, reading):
@@ -81,15 +62,30 @@ def check(program, text, reading):
     return check_all(program, [text], reading)[0]
 
 
+def answer_by_strict_check(program, text, reading):
+    """The answer to a text, by a strict check of what the reading makes of it, and by the gets that are judged one by
+    one. Its line is that of the check."""
+    history = history_of(text)
+    options = ["--conflicts", conflicts_read(reading)]
+    answer = answer_of_line(lines_of_check(program, [text_of(strict_history(reading, history))], options)[0])
+    answer = answer._replace(calls=tuple(number_in_text(reading, history.events, it) for it in answer.calls))
+    if answer.kind not in (None, "ruled-out"):
+        return answer
+    # (a document is ruled out only if there is no other evidence)
+    calls = known_calls(history.events)
+    gets = unexplained_gets(reading, history.voids, history.events)
+    first = min(gets, key=lambda it: (calls[it[1][0]].replied, it[0] != "no-writer"), default=None)
+    return Answer("refuted", *first, answer.line) if first else answer
+
+
 def witness_of_text(program, text, reading):
     """The witness that the program writes of a text, or the line that it has instead."""
-    options = ["--rule-out", *options_of(reading)]
-    return said(run_on_files(program, "witness", [text_asked(reading, text)], options))[1]
+    return said(run_on_files(program, "witness", [text], ["--rule-out", *options_of(reading)]))[1]
 
 
 def verify(program, text, witness, reading):
     """What `verify` answers to a witness of what is read of a text."""
-    return said(run_on_files(program, "verify", [text_asked(reading, text), witness], options_of(reading)))[1]
+    return said(run_on_files(program, "verify", [text, witness], options_of(reading)))[1]
 
 
 def counts_of(reading, text, witness):

@@ -8,6 +8,7 @@ failed. That what is refuted of a part is true of the whole is tested by tests/c
 """
 
 import contextlib
+import itertools
 import json
 import os
 import pathlib
@@ -21,8 +22,8 @@ from recordings import FolderTest, judged
 from texts import created, found, get, index, lost, missing, updated
 
 from casbench_recording.continuing import MOST_GROWING, MOST_LOST, Continuing, TooManyLost
-from casbench_recording.history import CallError, Ended, HistoryError, Operation, Pair
-from casbench_recording.past import Conflicts
+from casbench_recording.history import MOST_EVENTS, CallError, Ended, HistoryError, Operation, Pair
+from casbench_recording.reading import OPENSEARCH, STRICT, Conflicts, Gets, Reading, Writes
 
 
 def rows(text):
@@ -67,13 +68,18 @@ class ContinuingTest(FolderTest):
 class Beginnings(ContinuingTest):
     """The lines with which a document begins its next part."""
 
-    def begun(self, *made, conflicts=Conflicts.PLAIN):
+    def begun(self, *made, reading=STRICT):
         """The lines of the second part, after these calls in the first one: each a call, and what ends it."""
-        with self.recording(len(made), conflicts=conflicts) as recording:
+        self.parts = self.parts.with_name(f"parts-{next(self.names_left)}")
+        with self.recording(len(made), reading=reading) as recording:
             for call, end in made:
                 end(recording.call(*call))
             recording.call("get", "d").missing()
         return self.text(2)
+
+    def setUp(self):
+        super().setUp()
+        self.names_left = itertools.count()
 
     CREATED = (("index", "d", 7), lambda call: call.indexed(Pair(1, 4), created=True))
     DELETED = (("delete", "d"), lambda call: call.deleted(Pair(1, 5), found=True))
@@ -111,7 +117,6 @@ class Beginnings(ContinuingTest):
             self.STATED + again + lost(1) + lost(2) + lost(3) + get(4) + missing(4, "d"),
         )
         shown = (("get", "d"), lambda call: call.found(Pair(1, 5), 8))
-        self.parts = self.parts.with_name("more")
         self.assertEqual(self.begun(self.CREATED, self.LOST, shown), index(0, k=8) + created(0, 1, 5, "d") + get(1) + missing(1, "d"))
 
     def test_conflicts(self):
@@ -119,14 +124,48 @@ class Beginnings(ContinuingTest):
         conflict = (("index", "d", 9, Pair(1, 4)), lambda call: call.conflict())
         shown = (("get", "d"), lambda call: call.found(Pair(1, 4), 7))
         again = index(1, ',"if_seq_no":4,"if_primary_term":1', k=9) + lost(1)
-        wanted = [
-            ((self.CREATED, conflict), Conflicts.PLAIN, self.STATED + get(1) + missing(1, "d")),
-            ((self.CREATED, conflict), Conflicts.MAYBE, self.STATED + again + get(2) + missing(2, "d")),
-            ((self.CREATED, conflict, shown), Conflicts.MAYBE, self.STATED + get(1) + missing(1, "d")),
-        ]
-        for number, (made, conflicts, text) in enumerate(wanted):
-            self.parts = self.parts.with_name(f"conflicts-{number}")
-            self.assertEqual(self.begun(*made, conflicts=conflicts), text)
+        maybe = Reading(conflicts=Conflicts.MAYBE)
+        self.assertEqual(self.begun(self.CREATED, conflict), self.STATED + get(1) + missing(1, "d"))
+        self.assertEqual(self.begun(self.CREATED, conflict, reading=maybe), self.STATED + again + get(2) + missing(2, "d"))
+        self.assertEqual(self.begun(self.CREATED, conflict, shown, reading=maybe), self.STATED + get(1) + missing(1, "d"))
+
+    # Weaker readings: any copy may answer a get, and a lost write without a condition may be performed again.
+
+    UNDER = (("index", "d", 9, Pair(1, 4)), lambda call: call.conflict())
+    FOUND = (("get", "d"), lambda call: call.found(Pair(1, 5), 8))
+    NEXT = (("index", "d", 10), lambda call: call.indexed(Pair(1, 6), created=False))
+    LOST_AGAIN = index(1, k=8) + lost(1) + get(2) + missing(2, "d")
+
+    def test_gets_of_any_copy(self):
+        """What a get shows isn't stated, and its writer is carried over."""
+        for reading in (Reading(Gets.ANY), OPENSEARCH):
+            self.assertEqual(self.begun(self.CREATED, self.LOST, self.FOUND, reading=reading), self.STATED + self.LOST_AGAIN)
+
+    def test_conflicts_that_show_nothing(self):
+        """Such a write is carried over until a write that was made after its reply is answered; with gets of any copy no get ends that."""
+        again = index(1, ',"if_seq_no":4,"if_primary_term":1', k=9) + lost(1) + get(2) + missing(2, "d")
+        same = (("get", "d"), lambda call: call.found(Pair(1, 4), 7))
+        unknown = Reading(conflicts=Conflicts.UNKNOWN)
+        self.assertEqual(self.begun(self.CREATED, self.UNDER, reading=unknown), self.STATED + again)
+        self.assertEqual(self.begun(self.CREATED, self.UNDER, same, reading=unknown), self.STATED + get(1) + missing(1, "d"))
+        self.assertEqual(self.begun(self.CREATED, self.UNDER, same, reading=OPENSEARCH), self.STATED + again)
+        stated = index(0, k=10) + created(0, 1, 6, "d") + get(1) + missing(1, "d")
+        self.assertEqual(self.begun(self.CREATED, self.UNDER, self.NEXT, reading=OPENSEARCH), stated)
+
+    def test_creates_that_are_refused(self):
+        """One is carried over if a delete that isn't answered may have come before it."""
+        refused = (("create", "d", 9), lambda call: call.conflict())
+        gone = (("delete", "d"), lambda call: call.lost())
+        again = '{"e":"call","n":1,"id":"d","op":"delete"}\n{"e":"call","n":2,"id":"d","op":"create","k":9}\n' + lost(1) + lost(2)
+        self.assertEqual(self.begun(self.CREATED, refused, reading=OPENSEARCH), self.STATED + get(1) + missing(1, "d"))
+        self.assertEqual(self.begun(self.CREATED, gone, refused, reading=OPENSEARCH), self.STATED + again + get(3) + missing(3, "d"))
+
+    def test_writes_that_are_repeated(self):
+        """A lost write that was seen may be performed again; an answered one is over."""
+        repeated = Reading(writes=Writes.REPEATED)
+        shown = index(0, k=8) + created(0, 1, 5, "d")
+        self.assertEqual(self.begun(self.CREATED, self.LOST, self.FOUND, reading=repeated), shown + self.LOST_AGAIN)
+        self.assertEqual(self.begun(self.CREATED, reading=repeated), self.STATED + get(1) + missing(1, "d"))
 
 
 class Placing(ContinuingTest):
@@ -235,6 +274,24 @@ class Placing(ContinuingTest):
         self.assertEqual(self.text(2).count('"call"'), 2)
         self.assertNotIn('"id":"d"', self.text(2))
 
+    def test_two_endings_of_a_call(self):
+        """The first one counts, also if both come at once."""
+        recording = self.recording()
+        call, other = recording.call("get", "d"), recording.call("get", "e")
+        recording.end_all([(call, None), (call, (404, '{"found":false}')), (other, None), (call, None)])
+        self.assertRaises(CallError, call.lost)
+        recording.lose([call, call])
+        recording.end()
+        self.assertEqual(self.text(1), get(0) + get(1, doc="e") + lost(0) + lost(1))
+        self.assertEqual((recording.replies, recording.lost), (0, 2))
+
+    def test_room_for_writes_that_are_repeated(self):
+        """A part has room for what a check makes of it."""
+        repeated = Reading(writes=Writes.REPEATED)
+        self.assertEqual(self.recording(reading=repeated).room, MOST_EVENTS // 3)
+        self.parts = self.parts.with_name("others")
+        self.assertEqual(self.recording().room, MOST_EVENTS // 2)
+
     def test_the_end(self):
         recording = self.recording()
         call = recording.call("index", "d", 1)
@@ -295,7 +352,11 @@ class Placing(ContinuingTest):
 
     def test_what_is_remembered(self):
         """A recording of many calls keeps as much in memory as one of few."""
-        recording = self.recording(50)
+        for reading in (STRICT, Reading(conflicts=Conflicts.MAYBE), OPENSEARCH):
+            self.parts = self.parts.with_name(f"parts-{reading.conflicts.value}")
+            self.check_remembered(self.recording(50, reading=reading))
+
+    def check_remembered(self, recording):
         pair = 0
         for number in range(1000):
             recording.call("index", "d", number, Pair(1, pair)).lost()

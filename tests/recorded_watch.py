@@ -8,6 +8,7 @@ failed.
 """
 
 import contextlib
+import io
 import itertools
 import os
 import pathlib
@@ -21,17 +22,24 @@ import time
 import unittest
 
 from program_test import run_tests
-from recordings import FolderTest, Started, environment, judged
+from recordings import FolderTest, Started, environment, judged, own_reading
+from small_readings import READINGS
 from texts import created, delete, found, get, index, lost, updated
 
-from casbench_recording.history import Pair
+from casbench_recording import proxy, record, watch
+from casbench_recording.history import MOST_EVENTS, Pair
+from casbench_recording.reading import reading_of
 from casbench_recording.snapshots import Snapshot
 from casbench_recording.terms import TermReader, Terms
+from casbench_recording.watcher import watch_options
 
 # A history that is right, what makes it stale, and what no history is.
 RIGHT = index(0) + created(0, 1, 0) + index(1, k=2) + updated(1, 1, 1)
 STALE = get(2) + found(2, 1, 0)
 NONE = "{}\n"
+
+# A write that one copy shows before it is acknowledged, and another one doesn't.
+TWO_COPIES = index(0) + created(0, 1, 0) + index(1, k=2) + get(2) + found(2, 1, 1, k=2) + get(3) + found(3, 1, 0) + updated(1, 1, 1)
 
 # A write of another document is acknowledged, and then a term starts behind it, or at its number, so that it may be lost.
 ACKNOWLEDGED = RIGHT + index(2, doc="e") + created(2, 1, 2433, doc="e")
@@ -109,6 +117,23 @@ class OneHistory(WatchTest):
         self.assertGreater(printed.count("\n"), 5)
         self.assertTrue(os.path.exists(mark))
         self.assertRegex(fault, r"\Acasbench_recording\.watch: .* ended with status 3\n\Z")
+
+    def test_a_reading(self):
+        """The checks and the explanation are those of the reading."""
+        for options, ended in (
+            ((), (1, "refuted kind=ruled-out ")),
+            (("--profile", "opensearch"), (0, "yes docs=1 calls=4 left_out=0 gets=2\n")),
+            (("--profile", "opensearch", "--gets", "last"), (1, "refuted kind=ruled-out ")),
+            (("--gets", "any"), (0, "yes docs=1 calls=4 left_out=0 gets=2\n")),
+        ):
+            with self.subTest(options):
+                pathlib.Path(self.file).write_text(TWO_COPIES)
+                status, printed, fault = self.ended(self.closed(*options))
+                self.assertEqual((status, printed[: len(ended[1])]), ended, fault)
+
+    def closed(self, *options):
+        """A watch whose standard input is at its end, so that its first check is its last one."""
+        return self.watched("--until-closed", *options, stdin=subprocess.DEVNULL)
 
     def test_whole_lines_alone(self):
         whole = RIGHT + STALE
@@ -278,6 +303,57 @@ class Directory(WatchTest):
         wanted = "1 part: 0 yes, 0 no, 1 refused\nrefused line=1 cause=shape\n"
         self.assertEqual(self.ended(child, signal.SIGTERM)[:2], (2, wanted))
         self.assertEqual(os.listdir(self.file), ["part-000001.ndjson"])
+
+
+class Readings(unittest.TestCase):
+    """The options of a reading, as recorders take them and hand them on to the watch."""
+
+    RECORDERS = {
+        "record": lambda words: record.words_of(["http://127.0.0.1", "carts", "OUT", *words]),
+        "proxy": lambda words: proxy.words_of(["--cluster", "http://127.0.0.1", "--index", "carts", "OUT", *words]),
+    }
+
+    def test_readings_that_are_handed_on(self):
+        for (recorder, read), (name, reading) in itertools.product(self.RECORDERS.items(), READINGS.items()):
+            with self.subTest(f"{recorder}, {name}"):
+                setting = read(["--watch", *reading.options()])
+                watched = watch.setting_of(["OUT", *watch_options(setting)])
+                self.assertEqual((setting.reading, reading_of(watched)), (own_reading(reading),) * 2)
+
+    def test_profiles(self):
+        """A profile stands for its values, but for those that are named beside it, before or behind."""
+        profile = READINGS["the profile of OpenSearch"]
+        for words, reading in (
+            ((), profile._replace(gets="last", conflicts="plain", writes="once", failed="lost")),
+            (("--profile", "opensearch"), profile),
+            (("--writes", "once", "--profile", "opensearch", "--conflicts", "maybe"), profile._replace(writes="once", conflicts="maybe")),
+            (("--profile", "strict", "--gets", "any"), READINGS["gets of any copy"]),
+        ):
+            for recorder, read in self.RECORDERS.items():
+                with self.subTest(f"{recorder} {words}"):
+                    self.assertEqual(read(words).reading, own_reading(reading))
+
+    def test_bad_options(self):
+        """An option that comes twice and a value that it doesn't have are refused, with the usage and status 2."""
+        readers = {**self.RECORDERS, "watch": lambda words: watch.setting_of(["OUT", *words])}
+        for (name, read), words in itertools.product(readers.items(), (["--gets", "any"] * 2, ["--profile", "none"], ["--failed", ""])):
+            with self.subTest(f"{name} {words}"), contextlib.redirect_stderr(io.StringIO()) as told:
+                with self.assertRaises(SystemExit) as ended:
+                    read(words)
+                self.assertEqual(ended.exception.code, 2)
+                self.assertRegex(told.getvalue(), rf"\Ausage: (?s:.*)error: argument {words[0]}: ")
+
+    def test_room(self):
+        """A recording whose writes may be repeated has room for fewer calls."""
+        calls = MOST_EVENTS // 3
+        for more in (0, 1):
+            words = ["--writes", "repeated", "--clients", "1", "--calls", str(calls + more)]
+            with self.subTest(more), contextlib.redirect_stderr(io.StringIO()) as told:
+                if more:
+                    self.assertRaises(SystemExit, self.RECORDERS["record"], words)
+                    self.assertIn(f"over {calls} calls, the most of one history", told.getvalue())
+                else:
+                    self.assertEqual(self.RECORDERS["record"](words).reading.most_events, 2 * calls)
 
 
 class TermsOfShards(unittest.TestCase):

@@ -4,6 +4,7 @@ of a file.
 It is no test itself.
 """
 
+import argparse
 import json
 import os
 import signal
@@ -17,6 +18,20 @@ from program_test import ProgramTest
 
 PACKAGE = TOP / "recording"
 sys.path.insert(0, str(PACKAGE))
+
+from casbench_recording.reading import CHOICES, Reading, add_reading_options, reading_of
+
+
+def own_reading(reading):
+    """A reading of tests/readings.py, as the package has it."""
+    return Reading(*(CHOICES[name](value) for name, value in reading._asdict().items()))
+
+
+def reading_of_options(words):
+    """The reading that these options ask for, as the package reads them among other words."""
+    parser = argparse.ArgumentParser()
+    add_reading_options(parser.add_argument)
+    return reading_of(parser.parse_known_args(words)[0])
 
 
 def judged(program, file, *options):

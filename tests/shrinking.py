@@ -4,10 +4,11 @@
     python3 tests/shrinking.py [PROGRAM]
 
 PROGRAM is the built casbench; if it isn't named, the one that ./casbench would run. The recordings are those of
-tests/ruled_out.py, with one fault each, that get another answer than yes. What is left has to be lines of the recording
-as they stood, to get the same answer, to be few calls if the evidence is two calls alone, and to lose that answer if
-any one call more is left out. None of it comes into the history, whatever name that has. With a witness its part that
-is left has to be verified: honest recordings are cut down by a program that is made to answer them with no.
+tests/ruled_out.py, with one fault each, that get another answer than yes: strictly, or in a weaker reading, for which
+every other loss states that nothing was performed. What is left has to be lines of the recording as they stood, to get
+the same answer, to be few calls if the evidence is two calls alone, and to lose that answer if any one call more is left
+out. None of it comes into the history, whatever name that has. With a witness its part that is left has to be verified:
+honest recordings are cut down by a program that is made to answer them with no.
 """
 
 import itertools
@@ -21,25 +22,33 @@ import tempfile
 from honest import Index, Recording
 from orders import text_of
 from program_test import ProgramTest, run_tests
-from recordings import environment  # (for the package too)
-from ruled_out import answer, evidence_of, kind_of, recording
-from texts import OFFENCE, READINGS, created, get, index, missing
+from readings import STRICT, Reading, void_line
+from recordings import environment, own_reading  # (for the package too)
+from ruled_out import evidence_of, kind_of, recording
+from running import run, run_on_files, said
+from small_readings import READINGS
+from texts import OFFENCE, created, get, index, missing
 
 from casbench_recording.history import Pair
 from casbench_recording.shrink import Program, Shrinker
 from casbench_recording.witness import StoreLog, witness_by_log
 
-# How many recordings are drawn for each reading of a conflict and each way to ask.
-RECORDINGS = 60
+# The readings of a conflict that are strict otherwise.
+CONFLICTS = (STRICT, Reading(conflicts="maybe"))
 
-# How many honest recordings are cut down with their witnesses.
-FALSE_ALARMS = 20
+# How many recordings are drawn for each of these and each way to ask, and for each weaker reading.
+RECORDINGS, RECORDINGS_WEAKER = 60, 20
+
+# How many honest recordings are cut down with their witnesses, and how many in each weaker reading.
+FALSE_ALARMS, FALSE_ALARMS_WEAKER = 20, 3
 
 # The most calls that are left by the kind of evidence. A get that is stale shows what a third call wrote.
-MOST = {"no-writer": 1, "pair-twice": 2, "stale-get": 3, "stale-swap": 2}
+MOST = {"no-writer": 1, "pair-twice": 2, "stale-get": 3, "stale-swap": 2, "missed-write": 2}
 
-# The kinds of answers that have to be among those that are cut down.
-KINDS = {*MOST, "ruled-out", "no"}
+# The kinds of answers that have to be among those that are cut down, strictly and in the weaker readings.
+# (a get that finds nothing is cut down by the tests of the command)
+KINDS_WEAKER = {*MOST, "ruled-out"} - {"missed-write"}
+KINDS = {*KINDS_WEAKER, "no"}
 
 
 def numbers_of(text):
@@ -52,34 +61,56 @@ def without(text, number):
     return "".join(it for it in text.splitlines(keepends=True) if json.loads(it)["n"] != number)
 
 
-def is_proved(text, number):
-    """Whether each write of the document of this call was answered, so that its having no order is proved."""
+def is_decided(reading, call, ending):
+    """Whether it is known which writes were performed of a call, by its line and by that of its ending, if it has one."""
+    is_void = reading.failed == "trusted" and ending is not None and "void" in ending
+    if call["op"] == "get" or is_void:
+        return True
+    is_repeated = reading.writes == "repeated" and "if_seq_no" not in call
+    is_answered = ending is not None and ending["e"] == "reply"
+    is_open = not is_answered or ending["status"] == 409 and reading.conflicts != "plain"
+    return not is_open and not is_repeated
+
+
+def is_proved(text, number, reading):
+    """Whether of each write of the document of this call the outcome is known, so that its having no order is proved."""
     rows = [json.loads(it) for it in text.splitlines()]
     calls = {it["n"]: it for it in rows if it["e"] == "call"}
-    answered = {it["n"] for it in rows if it["e"] == "reply"}
-    return all(n in answered for n, it in calls.items() if it["id"] == calls[number]["id"] and it["op"] != "get")
+    endings = {it["n"]: it for it in rows if it["e"] != "call"}
+    own = [it for it in calls.values() if it["id"] == calls[number]["id"]]
+    return all(is_decided(reading, it, endings.get(it["n"])) for it in own)
 
 
 def reported(program, text, reading, options):
     """What an answer says that has to stay: the kind and the calls of evidence, else the call that is named and whether
     that is proved."""
-    line = answer(program, "check", text, reading, *options)
+    line = said(run(program, ["check", *reading.options(), *options], text))[1]
     if kind_of(line) != "no":
         return kind_of(line), evidence_of(line)
     number = int(OFFENCE.fullmatch(line)["call"])
-    return "no", (number, is_proved(text, number))
+    return "no", (number, is_proved(text, number, reading))
 
 
 def cut_down(program, text, reading, options):
     """The text of the calls that are left."""
-    shrinker = Shrinker(text.encode().splitlines(keepends=True), Program(program, reading, "--rule-out" in options))
+    asked = Program(program, own_reading(reading), "--rule-out" in options)
+    shrinker = Shrinker(text.encode().splitlines(keepends=True), asked)
     shrinker.shrink()
     return shrinker.recorded.text_of(shrinker.kept).decode()
 
 
+def with_voids(text):
+    """The text with every other loss stating that nothing was performed."""
+    lines = text.splitlines(keepends=True)
+    losses = [at for at, it in enumerate(lines) if it.startswith('{"e":"lost"')]
+    for at in losses[::2]:
+        lines[at] = void_line(lines[at])
+    return "".join(lines)
+
+
 def shrunk(program, seed, reading, options):
     """Cuts a recording down; returns the kind of its answer."""
-    text = text_of(recording(seed))
+    text = text_of(recording(seed)) if reading in CONFLICTS else with_voids(text_of(recording(seed)))
     wanted = reported(program, text, reading, options)
     if wanted[0] == "yes":
         return "yes"
@@ -126,18 +157,25 @@ class Alarmed(Program):
         return f"no event=0 call={self.calls[-1]} before=shown\n" if is_there else "yes docs=1 calls=1 left_out=0\n"
 
 
-def false_alarm(program, seed):
-    """Cuts down an honest recording, of which the program says no as long as three calls are in it, with its witness by
-    the index's log. Gives the answers to what is left: with the witness, and without one."""
+def witness_of(program, text, reading, index):
+    """The witness of an honest recording: strictly that by the index's log, and else the program's."""
+    if reading == STRICT:
+        return "".join(witness_by_log(text, StoreLog(index.changes, index.seen))).encode()
+    return said(run_on_files(program, "witness", [text], reading.options()))[1].encode()
+
+
+def false_alarm(program, seed, reading):
+    """Cuts down an honest recording, of which the program says no as long as three calls are in it, with its witness.
+    Gives the answers to what is left: with the witness, and without one."""
     recording = Recording(seed, docs=2, clients=4, calls=80, loss=0.1)
     recording.index = Honest(recording.draw, 2, 0.0, 1)
     text = "".join(recording.lines()).encode()
-    witness = "".join(witness_by_log(text, StoreLog(recording.index.changes, recording.index.seen))).encode()
+    witness = witness_of(program, text, reading, recording.index)
     answered = [it["n"] for it in map(json.loads, text.splitlines()) if it["e"] == "reply" and it["status"] < 500]
     calls = sorted(recording.draw.sample(answered, 3))
     answers = []
     for own in (witness, None):
-        asked = Alarmed(program)
+        asked = Alarmed(program, own_reading(reading))
         asked.calls = calls
         shrinker = Shrinker(text.splitlines(keepends=True), asked, own)
         shrinker.shrink()
@@ -145,7 +183,7 @@ def false_alarm(program, seed):
         if not set(calls) <= set(numbers_of(left.decode())):
             raise AssertionError(f"of {calls} not all are left: {left.decode()}")
         left_of_own = shrinker.recorded.witness_of(shrinker.kept) if own else None
-        line = asked.verified(left, left_of_own) if own else Program(program).answer(left)
+        line = asked.verified(left, left_of_own) if own else Program(program, own_reading(reading)).answer(left)
         answers.append(line.split()[0])
     return tuple(answers)
 
@@ -167,16 +205,28 @@ class Recordings(ProgramTest):
 
     def test_drawn(self):
         """What is left of a recording is as it should be. Recordings with each kind of answer are cut down."""
-        settings = itertools.product(range(RECORDINGS), READINGS, ((), ("--rule-out",)))
+        settings = itertools.product(range(RECORDINGS), CONFLICTS, ((), ("--rule-out",)))
+        self.check_drawn(settings, KINDS)
+
+    def test_drawn_in_weaker_readings(self):
+        """The same in weaker readings."""
+        settings = itertools.product(range(RECORDINGS_WEAKER), READINGS.values(), (("--rule-out",),))
+        self.check_drawn(settings, KINDS_WEAKER)
+
+    def check_drawn(self, settings, wanted):
+        """Cuts recordings down in these settings; some have an answer of each kind."""
         kinds = set(self.run_subtests(shrunk, [(f"recording {it}", self.program, *it) for it in settings]))
-        for kind in KINDS:
+        for kind in wanted:
             with self.subTest(f"whether a recording with the answer {kind} was cut down"):
                 self.assertIn(kind, kinds)
 
     def test_false_alarms(self):
         """All false alarms that are cut down with their witness are verified; some that are cut down without one have
         no order."""
-        answers = self.run_subtests(false_alarm, [(f"seed {seed}", self.program, seed) for seed in range(FALSE_ALARMS)])
+        rows = [(f"seed {seed}", self.program, seed, STRICT) for seed in range(FALSE_ALARMS)]
+        for name, reading in READINGS.items():
+            rows += [(f"{name}, seed {it}", self.program, it, reading) for it in range(FALSE_ALARMS_WEAKER)]
+        answers = self.run_subtests(false_alarm, rows)
         with_witness, without_one = zip(*filter(None, answers))
         self.assertEqual(set(with_witness), {"verified"})
         self.assertNotEqual(set(without_one), {"yes"})
@@ -187,7 +237,7 @@ class Command(ProgramTest):
 
     def test_stale_get(self):
         """Of a get that misses a write both are left."""
-        for options in ((), ("--rule-out",), ("--conflicts", "maybe")):
+        for options in ((), ("--rule-out",), ("--conflicts", "maybe"), ("--gets", "any"), ("--profile", "opensearch")):
             with self.subTest(options=options):
                 ended = command(self.program, f"\n{OTHER} \n{WROTE}{MISSED[:-1]}", *options)
                 self.assertEqual(ended, (0, WROTE + MISSED, "3 calls, 2 of them left,"))
@@ -212,6 +262,17 @@ class Command(ProgramTest):
         is_not_valid = "the witness gets broken doc=0 cause=doc-missing"
         is_not_named = "error: --few-witness is a part of the witness that --witness names"
         self.assertEqual(ends, [(1, "", is_not_valid), (2, "", is_not_named)])
+
+    def test_options(self):
+        """An option that comes twice, and a value that it doesn't have."""
+        for options, why in (
+            (("--profile", "strict", "--profile", "strict"), "argument --profile: it comes twice"),
+            (("--failed", "void"), "argument --failed: invalid choice: 'void' (choose from 'lost', 'trusted')"),
+        ):
+            with self.subTest(options=options):
+                status, out, err = command(self.program, OTHER, *options)
+                self.assertEqual((status, out), (2, ""))
+                self.assertTrue(err.startswith("usage: ") and err.endswith(f"error: {why}\n"), err)
 
     def test_no_program(self):
         absent = "/dev/null/casbench"

@@ -1,6 +1,5 @@
 #!/usr/bin/env python3
-"""Draws small histories, and compares what `check --rule-out` says of each in a reading with an exact search. The program
-takes no reading yet: `reading_answers.py` gives it each history as the reading turns it, and judges the gets.
+"""Draws small histories, and compares what `check --rule-out` says of each in a reading with an exact search.
 
     python3 tests/small_readings.py [PROGRAM]
 
@@ -13,12 +12,11 @@ to hold of every history is:
 - `refuted` is answered only if it isn't, and the evidence holds.
 - What is explained strictly is explained under each reading, unless a loss is trusted.
 
-The last part needs the options of readings: which values of options and of members are refused, and by which line there
+The last part is of the options of readings: which values of options and of members are refused, and by which line there
 is no room for the writes that may be repeated.
 """
 
 import sys
-import unittest
 from collections import Counter
 from concurrent.futures import ProcessPoolExecutor
 
@@ -26,7 +24,7 @@ from drawing import CONFLICT, NAMES, Call, Draws, Ending, Op, Reply, pair_taken,
 from evidence import holds, known_calls
 from exact import has_order
 from program_test import ProgramTest, run_tests
-from reading_answers import HAS_OPTIONS, check_all
+from reading_answers import check_all
 from readings import OPENSEARCH, STRICT, History, Reading, conflicts_read, history_of, numbers_read, read_as, text_of
 from readings import first_without_room, unexplained_gets
 from ruled_out import FAULTS, Cluster, Due, stale_get
@@ -186,13 +184,16 @@ def shows_what_copy_may(get, history, reading):
     return all(it.reply.pair < gone for it in acknowledged if it.op.name != "delete")
 
 
+def shows_what_copies_may(history, reading):
+    """Whether copies in sync may have answered the gets, if any copy may."""
+    gets = [it for it in known_calls(history.events).values() if it.op.name == "get" and it.reply]
+    return reading.gets == "last" or all(shows_what_copy_may(it, history, reading) for it in gets)
+
+
 def is_explained(history, reading):
     """Whether the history is explained under the reading."""
-    if reading.gets == "any":
-        gets = [it for it in known_calls(history.events).values() if it.op.name == "get" and it.reply]
-        if not all(shows_what_copy_may(it, history, reading) for it in gets):
-            return False
-    return has_order(list(in_order(history, reading)), conflicts_read(reading), history.shard_of)
+    calls = list(in_order(history, reading))
+    return shows_what_copies_may(history, reading) and has_order(calls, conflicts_read(reading), history.shard_of)
 
 
 # How they are judged.
@@ -337,7 +338,7 @@ class SmallReadings(ProgramTest):
                 self.assertLessEqual(missed, MOST_MISSED)
 
 
-# What needs the options of readings.
+# The options of readings.
 
 # Of each option the values that it has.
 VALUES = {
@@ -366,7 +367,6 @@ def options_in_words(reading):
     return " ".join(reading.options())
 
 
-@unittest.skipUnless(HAS_OPTIONS, "the program has no options of readings, so their arguments are not tested")
 class Options(ProgramTest):
     """The options of readings, their values, and the member that one of them reads."""
 

@@ -21,7 +21,7 @@ from case_files import all_cases
 from program_test import ProgramTest, run_tests
 from running import bytes_of, run, said
 from texts import MOST_OF_PAIR, READINGS, condition, conflict, create, created, delete, deleted, found, get, index, lost, missing, no
-from texts import no_writer, refuted, updated
+from texts import no_writer, refuted, reply, updated
 
 # A get of what nobody wrote, of a document with markup for its id, after blank lines.
 MARKUP = "\n\n" + get(0, doc=r"<script>alert(\"1\")</script>&") + "\n" + found(0, 1, 0, k=2)
@@ -221,6 +221,220 @@ TEXTS += [
         {},
         "--conflicts",
         "maybe",
+    ),
+]
+
+# Two gets: one shows a write before it is acknowledged, the next one the version before it.
+ONE_COPY_AHEAD = index(0) + created(0, 1, 0) + index(1, k=2) + get(2) + found(2, 1, 1, k=2) + get(3) + found(3, 1, 0) + updated(1, 1, 1)
+
+# A get of a version that was replaced by an acknowledged write, by calls with numbers of their own.
+OLDER_GET = index(10) + created(10, 1, 0) + index(21, k=2) + updated(21, 1, 1) + get(32) + found(32, 1, 0)
+
+# A write of a new document that says that it was there: its first attempt made it.
+SENT_AGAIN = index(7, k=5) + updated(7, 1, 1) + get(8) + found(8, 1, 1, k=5)
+
+# The line of a call of which the recorder says that nothing was performed.
+VOID = '{"e":"lost","n":1,"void":true}\n'
+
+PROFILE = ("--profile", "opensearch")
+BY_PROFILE = "\n\nBy what OpenSearch documents:\n"
+
+# What stories say under readings, and of replies that are in no table.
+TEXTS += [
+    (
+        "a write that was answered with a status of no row, and one that was not answered",
+        index(0) + created(0, 1, 0) + index(1, k=2) + reply(1, 429, '{"error":{"type":"x"},"status":429}') + index(2, k=3) + lost(2)
+        + index(3, k=4) + updated(3, 1, 1) + get(4) + found(4, 1, 0),
+        refuted("stale-get", "4,3", 9, 4),
+        [
+            "\n  line 3, call 1: index k=2 -> line 4: HTTP 429, which doesn't say whether the write was performed\n",
+            "\n  line 5, call 2: index k=3 -> no reply (open at the same time: 3, 4)\n",
+            "\n* line 7, call 3: index k=4 -> line 8: updated as 1/1 (open at the same time: 2)\n",
+            "\n\nWrites of unknown outcome, which may or may not have happened:\n"
+            '  line 3, call 1 of "d": index k=2 -> line 4: HTTP 429\n  line 5, call 2 of "d": index k=3\n',
+        ],
+        {">1 index k=2: HTTP 429<": [1], '<g class="bar lost"': [1], "Writes without a reply, which": [0]},
+    ),
+    (
+        "a get that was answered with a status of no row",
+        index(0) + created(0, 1, 0) + get(5) + reply(5, 503, "null") + index(1, k=4) + updated(1, 1, 1) + get(2) + found(2, 1, 0),
+        refuted("stale-get", "2,1", 7, 2),
+        ["\n  line 3, call 5: get -> line 4: HTTP 503, which doesn't say what was read\n"],
+        {"Writes of unknown outcome": [0]},
+    ),
+    (
+        "a stale get, if writes may be performed twice",
+        OLDER_GET,
+        refuted("stale-get", "32,21", 5, 32),
+        [
+            "\nThe reply that broke it: line 6, the reply to call 32 (get, called in line 5): k=1 at 1/0. ",
+            "\nCall 21 (index k=2) was answered with the version 1/1 (line 4) before call 32, a get, was made (line 5).",
+            "\n  line 1, call 10: index k=1 -> line 2: created as 1/0\n* line 3, call 21: index k=2 -> line 4: updated as 1/1\n"
+            "! line 5, call 32: get -> line 6: k=1 at 1/0\n",
+            "  call 10: index k=1 -> 1/0 k=1\n  call 21: index k=2 -> 1/1 k=2\n",
+        ],
+        {
+            "<dt>history</dt><dd>events: 6; calls: 3; documents: 1</dd>": [1],
+            "<dt>options</dt><dd>--conflicts plain --writes repeated --workers 1</dd>": [1],
+            "By what OpenSearch documents": [0],
+        },
+        "--writes",
+        "repeated",
+    ),
+    (
+        "a stale get, whatever copy answered it",
+        OLDER_GET,
+        refuted("stale-get", "32,21", 5, 32),
+        [
+            f'\nStale read: a get returned an older version than one that was acknowledged before (call 32 of "d", line 6).\n'
+            "Nothing explains the reply to a get, whatever copy answered it.\nThis is proved by evidence",
+            "This get is judged by itself: any copy may have answered it, but none that is in sync answers so.",
+            "\n\nWhy nothing explains these replies:\nCall 21 (index k=2) was answered with the version 1/1 (line 4) before call 32, a get, was made (line 5). "
+            "Any copy may answer a get, but each copy in sync has what was acknowledged before the get was made. "
+            "This one was answered with 1/0 (line 6), which is older than 1/1. So no copy in sync can have answered so.\n",
+            "\n! line 5, call 32: get -> line 6: k=1 at 1/0\n",
+            "  call 10: index k=1 -> 1/0 k=1\n  call 21: index k=2 -> 1/1 k=2\n",
+        ],
+        {
+            "<dt>options</dt><dd>--gets any --conflicts unknown --writes repeated --failed trusted --rule-out --workers 1</dd>": [1],
+            "By what OpenSearch documents": [0],
+            "preference": [0],
+        },
+        *PROFILE,
+    ),
+    (
+        "a write that a get missed, whatever copy answered it",
+        index(3) + created(3, 1, 0) + get(4) + missing(4),
+        refuted("missed-write", "4,3", 3, 4),
+        [
+            '\nAcknowledged write not seen: a get found nothing after a write was acknowledged (call 4 of "d", line 4).\n',
+            'This one found nothing (line 4), and no delete that was called before that reply can have removed "d" after 1/0. ',
+            "\n! line 3, call 4: get -> line 4: not found\n",
+        ],
+        {},
+        "--gets",
+        "any",
+    ),
+    (
+        "a get of what nobody wrote, whatever copy answered it and however often writes were performed",
+        index(3) + created(3, 1, 0) + get(4) + found(4, 1, 1, k=9),
+        no_writer(3, 4),
+        [
+            "no write with k=9 was without a reply or answered with a conflict, nor was one called that the store may have performed a second time. "
+            "So no copy can have had what the get found.\n",
+        ],
+        {},
+        *PROFILE,
+    ),
+    (
+        "a document that is ruled out, if writes may be performed twice",
+        index(4, condition(1, 7), k=3) + updated(4, 1, 6) + index(5, k=4) + updated(5, 1, 8),
+        refuted("ruled-out", "4", 1, 4),
+        [
+            "\nCall 4 (index k=3 if at 1/7, called in line 1) was answered \"updated as 1/6\" (line 2).",
+            "So no order has a place for call 4 and its reply.",
+        ],
+        {},
+        "--writes",
+        "repeated",
+        "--rule-out",
+    ),
+    (
+        "writes that are performed twice don't help",
+        index(4, condition(1, 0), k=3) + updated(4, 1, 6) + delete(5) + deleted(5, 1, 7),
+        no(1, 4),
+        ["\nThe document has no write without a reply that could have done it, and no write that could have done it if it was performed a second time.\n"],
+        {},
+        "--writes",
+        "repeated",
+    ),
+    (
+        "gets that are judged one by one",
+        ONE_COPY_AHEAD,
+        "yes docs=1 calls=4 left_out=0 gets=2\n",
+        [
+            "\nOne order of the calls explains the replies to the writes, and each get is explained by itself.\n",
+            "Gets that were judged one by one, since any copy may answer a get: 2. ",
+            "\n  gets that were answered: 2\n",
+            '\n  documents with the most calls: "d" with 4\n',
+        ],
+        {"events: 8; calls: 4; documents: 1": [1]},
+        *PROFILE,
+    ),
+    (
+        "a write that was sent again",
+        SENT_AGAIN,
+        "yes docs=1 calls=2 left_out=0\n",
+        [
+            "Calls of unknown outcome that took effect in the order that was found: 0. ",
+            "\nWrites that the order has a second time, since a store may send a write again: 1.\n",
+            '\n  documents with the most calls: "d" with 2\n',
+        ],
+        {},
+        "--writes",
+        "repeated",
+    ),
+    (
+        "a call that is void",
+        index(0) + created(0, 1, 0) + index(1, k=2) + VOID + get(2) + found(2, 1, 1, k=2),
+        no_writer(5, 2),
+        ["\n  line 3, call 1: index k=2 -> line 4: nothing was performed, as the recorder states\n"],
+        {"may or may not have happened": [0]},
+        "--failed",
+        "trusted",
+    ),
+    (
+        "two copies, as OpenSearch documents them",
+        ONE_COPY_AHEAD,
+        no(6, 3),
+        [
+            f"{BY_PROFILE}With `--profile opensearch` this history gets: yes docs=1 calls=4 left_out=0 gets=2\n"
+            "So as OpenSearch documents itself this is explained: a get may be answered by any copy,",
+            " Of OpenSearch: a get without `preference=_primary` may be answered by any copy, and one copy shows a write that is not acknowledged yet,",
+        ],
+        {},
+    ),
+    (
+        "two copies, and then a stale get",
+        ONE_COPY_AHEAD + get(4) + found(4, 1, 0),
+        refuted("stale-get", "4,1", 6, 3),
+        [
+            f"{BY_PROFILE}With `--profile opensearch` this history gets: {refuted('stale-get', '4,1', 9, 4)}So what OpenSearch documents doesn't explain it either: ",
+        ],
+        {},
+    ),
+    (
+        "a stale get, which OpenSearch doesn't explain in other words",
+        OLDER_GET,
+        refuted("stale-get", "32,21", 5, 32),
+        ["one in sync has what was acknowledged before the get was made"],
+        {"By what OpenSearch documents": [0]},
+    ),
+    (
+        "a conflict with its own first attempt",
+        create(0) + conflict(0),
+        no(1, 0),
+        [
+            f"{BY_PROFILE}With `--profile opensearch` this history gets: yes docs=1 calls=1 left_out=",
+            "its coordinating node sends a write again after it lost the connection to the primary, and the second attempt meets a conflict with the first one.",
+        ],
+        {},
+    ),
+    (
+        "another reading than the strict one",
+        create(0) + conflict(0) + index(1, condition(1, 0)) + created(1, 1, 1),
+        no(3, 1),
+        ["Condition not honoured"],
+        {"By what OpenSearch documents": [0]},
+        "--conflicts",
+        "maybe",
+    ),
+    (
+        "lines that say that nothing was performed",
+        create(0) + conflict(0) + index(1, doc="e") + VOID,
+        no(1, 0),
+        [f"{BY_PROFILE}Lines of this text may have the member `void`, which is heeded only then: `casbench check --profile opensearch FILE` answers"],
+        {"this history gets": [0]},
     ),
 ]
 

@@ -5,9 +5,10 @@ the first faults.
     python3 tests/witness_checker.py [PROGRAM]
 
 PROGRAM is the built casbench; if it isn't named, the one that ./casbench would run. Compared are all text cases, those
-of verify with their witnesses and all histories with the witness that the program writes of them, and 2,000 drawn
-witnesses: of histories of two to four documents, as the program writes them, and changed. Then the sentence that comes
-with each cause is checked, and the command.
+of verify with their witnesses and all histories in each reading with the witness that the program writes of them; 2,000
+drawn witnesses of histories of two to four documents, as the program writes them, and changed; and in each reading as
+many of small histories, some of which only a weaker promise explains. Then the sentence that comes with each cause is
+checked, and the command.
 """
 
 import json
@@ -22,28 +23,45 @@ from case_files import all_cases, case_text
 from drawing import Draws
 from program import TOP
 from program_test import ProgramTest, run_tests
-from recordings import environment
-from running import asked
-from texts import READINGS, conflict, created, delete, found, get, index, lost, missing, places_of, updated, witness_of
+from readings import history_of, strict_history, text_of
+from recordings import environment, own_reading, reading_of_options
+from running import bytes_of, run_on_files, said
+from small_readings import READINGS, small_history
+from texts import condition, conflict, created, delete, found, get, index, lost, missing, places_of, updated, witness_of
 
+from casbench_recording.reading import OPENSEARCH, STRICT, Conflicts, Failed, Reading
 from casbench_recording.witness import checked
 
-# How many witnesses are drawn, and how many of them are verified and broken at least.
+# How many witnesses are drawn of larger histories, and how many of them are verified and broken at least.
 WITNESSES, LEAST_VERIFIED, LEAST_BROKEN = 2_000, 700, 700
 
-# The causes of a broken witness: each has to come at least so often among the drawn ones.
+# How many are drawn of small histories in each reading, and how many of them are verified and broken at least.
+SMALL, LEAST_VERIFIED_SMALL, LEAST_BROKEN_SMALL = 400, 120, 120
+
+# The causes of a broken witness, and those of gets that are judged one by one: each has to come at least so often among
+# the drawn ones.
 CAUSES = "doc-stranger doc-twice doc-missing stranger twice pair-missing pair-given late illegal absent pair-twice".split()
-LEAST_OF_A_CAUSE = 5
+CAUSES_OF_GETS = ("no-writer", "stale-get", "missed-write")
+LEAST_OF_A_CAUSE, LEAST_OF_GETS = 5, 1
 
 # The most lines of the checker that aren't blank.
-MOST_LINES = 150
+MOST_LINES = 260
+
+# How a conflict is read by a strict check, and otherwise strictly.
+MAYBE = Reading(conflicts=Conflicts.MAYBE)
+CONFLICTS = (STRICT, MAYBE)
+
+
+def asked(program, command, *texts, reading):
+    """The status and the answer of a command on files with these texts, in a reading."""
+    return said(run_on_files(program, command, texts, reading.words()))
 
 
 def compared(program, history, witness, reading):
     """What both say of a witness: the word, and the cause if it is broken. They say the same but for the cause of a
     refusal."""
-    history, witness = (it.encode() if isinstance(it, str) else it for it in (history, witness))
-    status, line = asked(program, "verify", history, witness, conflicts=reading)
+    history, witness = map(bytes_of, (history, witness))
+    status, line = asked(program, "verify", history, witness, reading=reading)
     wanted = line.partition(" cause=")[0] if status == 2 else line.rstrip("\n")
     own_status, own = checked(history, witness, reading)
     if (own_status, own.partition("\n")[0]) != (status, wanted):
@@ -59,12 +77,12 @@ def case_rows(program):
     for name, texts in all_cases().items():
         words = texts["args"].decode().split()
         if words[:1] == ["verify"]:
-            yield name, program, texts["history"], texts["witness"], "maybe" if "maybe" in words else "plain"
+            yield name, program, texts["history"], texts["witness"], reading_of_options(words)
 
 
 def compared_as_written(program, history, reading):
     """The same of a history with the witness that the program writes of it, or with an empty one."""
-    status, text = asked(program, "witness", history, conflicts=reading)
+    status, text = asked(program, "witness", history, reading=reading)
     return compared(program, history, text if status == 0 else "", reading)
 
 
@@ -158,13 +176,13 @@ def hidden(draws, history, text):
 
 def drawn_witness(program, seed):
     """What both say of a drawn witness: one as the program writes it, or a changed one."""
-    draws, reading = Draws(seed + 7_000), READINGS[seed % 2]
+    draws, reading = Draws(seed + 7_000), CONFLICTS[seed % 2]
     history = drawn(seed // 4)
-    status, text = asked(program, "witness", history)
+    status, text = asked(program, "witness", history, reading=STRICT)
     if status:
         # (without an order any places will do: those of the answered calls as they were made)
         text = answered_as_made(history)
-    elif reading == "maybe":
+    elif reading is MAYBE:
         history, text = hidden(draws, history, text)
     return compared(program, history, changed(draws, text) if seed % 4 > 1 else text, reading)
 
@@ -181,10 +199,31 @@ def answered_as_made(history):
     return "".join(witness_of(*it) for it in places.items())
 
 
+def without_gets(text):
+    """The text with a loss in the place of each reply to a get. If gets are judged one by one the order is of the same
+    events."""
+    rows = list(map(json.loads, text.splitlines()))
+    gets = {it["n"] for it in rows if it["e"] == "call" and it["op"] == "get"}
+    for row, line in zip(rows, text.splitlines(keepends=True)):
+        yield lost(row["n"]) if row["e"] == "reply" and row["n"] in gets else line
+
+
+def small_witness(program, name, seed):
+    """What both say of a drawn witness of a small history in a reading: one as the program writes it, or a changed one.
+    The order is found whatever the gets show that are judged one by one."""
+    reading = READINGS[name]
+    draws, history, own = Draws(seed + 9_000), small_history(seed), own_reading(reading)
+    given = "".join(without_gets(history)) if reading.gets == "any" else history
+    status, text = asked(program, "witness", given, reading=own)
+    if status:
+        text = answered_as_made(text_of(strict_history(reading, history_of(history))))
+    return compared(program, history, changed(draws, text) if seed % 2 else text, own)
+
+
 # Sentences
 
 ONE = [index(3), created(3, 1, 4)]
-UNDER = ',"if_primary_term":1,"if_seq_no":4'
+UNDER = condition(1, 4)
 
 # A history, the places of its document d, and the sentence that describes the first fault.
 SENTENCES = [
@@ -224,6 +263,50 @@ SENTENCES = [
     ),
 ]
 
+# Histories under the profile of OpenSearch: the places of the document d, and the sentence that describes the first
+# fault.
+SENTENCES_OF_OPENSEARCH = [
+    (
+        ONE,
+        "0 1",
+        "The place gives no pair, though no reply shows which pair was taken by call 3 (index, performed again: no reply).",
+    ),
+    (
+        [*ONE, delete(5, UNDER), conflict(5)],
+        "0 2",
+        "The place gives no pair, though no reply shows which pair was taken by "
+        "call 5 (delete under 1/4: conflict, which shows nothing).",
+    ),
+    (
+        [*ONE, get(5), found(5, 1, 4)],
+        "0 2",
+        "A get without a reply has no place, and this place is that of call 5 (get: found, which shows nothing).",
+    ),
+    (
+        [*ONE, index(5), lost(5).replace("}", ',"void":true}')],
+        "0 2=1/5",
+        "A get without a reply has no place, and this place is that of call 5 (get: no reply).",
+    ),
+    (
+        [*ONE, get(5), found(5, 1, 4, k=7)],
+        "0",
+        'No write that was made before the reply can have given the document "d" what was found by '
+        "call 5 (get: found 1/4 with k=7).",
+    ),
+    (
+        [*ONE, get(5), found(5, 1, 3)],
+        "0",
+        "An older version was found by call 5 (get: found 1/3 with k=1) than was written by call 3 (index: created 1/4), "
+        "whose reply came before the get was made.",
+    ),
+    (
+        [*ONE, get(5), missing(5)],
+        "0",
+        "Nothing was found by call 5 (get: missing), though a reply came before it was made to call 3 (index: created 1/4), "
+        "and no delete can be behind that.",
+    ),
+]
+
 TWO = [*ONE, index(5, doc="e"), created(5, 1, 4)]
 # (of two pairs that are taken twice the lesser one is named, here that of the documents x and y)
 FOUR = [it for n, doc in enumerate("dexy") for it in (index(n, doc=doc), created(n, 1, 9 if doc in "de" else 4))]
@@ -246,9 +329,18 @@ WHOLE = [
 ]
 
 
-def sentence_of(history, witness):
+def sentence_of(history, witness, reading=STRICT):
     """The second line of the checker's answer to a witness."""
-    return checked("".join(history).encode(), witness.encode(), "plain")[1].partition("\n")[2]
+    return checked("".join(history).encode(), witness.encode(), reading)[1].partition("\n")[2]
+
+
+# Lost calls that are marked as void, or by something else: each with how it is read, and what the checker says of a
+# witness without places.
+VOIDS = [
+    ("true", Failed.TRUSTED, (0, "verified docs=1 calls=2 left_out=1")),
+    ("1", Failed.TRUSTED, (2, "refused file=history line=4")),
+    ("1", Failed.LOST, (0, "verified docs=1 calls=2 left_out=1")),
+]
 
 
 def command(words):
@@ -268,18 +360,32 @@ class Comparing(ProgramTest):
     def test_other_cases(self):
         """The histories of all cases, with what the program writes of them."""
         histories = {name: texts["history"] for name, texts in all_cases().items() if "history" in texts}
-        rows = [(f"{name}, {it}", self.program, history, it) for name, history in histories.items() for it in READINGS]
+        readings = [*CONFLICTS, *map(own_reading, READINGS.values())]
+        rows = [(f"{name}, {it}", self.program, text, it) for name, text in histories.items() for it in readings]
         self.run_subtests(compared_as_written, rows)
 
     def test_drawn_witnesses(self):
         """Drawn witnesses, enough of which are verified, and broken by each cause."""
         answers = self.run_subtests(drawn_witness, [(f"seed {it}", self.program, it) for it in range(WITNESSES)])
         counts = Counter(answers)
-        print(", ".join(f"{count} {word}" for word, count in sorted(counts.items(), key=str)))
+        self.check_counts("strict", counts, LEAST_VERIFIED, LEAST_BROKEN)
         for cause in CAUSES:
             self.assertGreaterEqual(counts[cause], LEAST_OF_A_CAUSE, cause)
-        self.assertGreaterEqual(counts["verified"], LEAST_VERIFIED)
-        self.assertGreaterEqual(sum(counts[it] for it in CAUSES), LEAST_BROKEN)
+
+    def check_counts(self, name, counts, verified, broken):
+        """Enough witnesses are verified, and broken."""
+        print(f"{name}: " + ", ".join(f"{count} {word}" for word, count in sorted(counts.items(), key=str)))
+        self.assertGreaterEqual(counts["verified"], verified)
+        self.assertGreaterEqual(sum(counts[it] for it in {*CAUSES, *CAUSES_OF_GETS}), broken)
+
+    def test_small_histories(self):
+        """Drawn witnesses of small histories in each reading."""
+        for name, reading in READINGS.items():
+            rows = [(f"{name}, seed {it}", self.program, name, it) for it in range(SMALL)]
+            counts = Counter(self.run_subtests(small_witness, rows))
+            self.check_counts(name, counts, LEAST_VERIFIED_SMALL, LEAST_BROKEN_SMALL)
+            for cause in CAUSES_OF_GETS if reading.gets == "any" else ():
+                self.assertGreaterEqual(counts[cause], LEAST_OF_GETS, f"{name}: {cause}")
 
 
 class Explaining(ProgramTest):
@@ -291,12 +397,42 @@ class Explaining(ProgramTest):
             with self.subTest(witness):
                 self.assertEqual(sentence_of(history, witness), wanted)
 
+    def test_sentences_of_opensearch(self):
+        for history, places, wanted in SENTENCES_OF_OPENSEARCH:
+            with self.subTest(wanted):
+                self.assertEqual(sentence_of(history, witness_of("d", places_of(places)), OPENSEARCH), wanted)
+
+    def test_voids(self):
+        """A void is heeded, or refused if it is neither true nor false, only if losses are trusted."""
+        for value, failed, wanted in VOIDS:
+            with self.subTest(value, failed=failed):
+                history = "".join([*ONE, index(5), f'{{"e":"lost","n":5,"void":{value}}}\n'])
+                said_of = checked(history.encode(), witness_of("d", [(0, None)]).encode(), Reading(failed=failed))
+                self.assertEqual(said_of, wanted)
+
     def test_command(self):
         with tempfile.TemporaryDirectory() as folder:
             history, witness = (pathlib.Path(folder) / it for it in ("history", "witness"))
             history.write_text(case_text("verify-good-order"))
             witness.write_text(case_text("verify-good-order", "witness"))
-            self.assertEqual(command(["check", history, witness]), (0, "verified docs=1 calls=4 left_out=0\n", ""))
+            counts = "verified docs=1 calls=4 left_out="
+            self.assertEqual(command(["check", history, witness]), (0, f"{counts}0\n", ""))
+            history.write_text("".join([*ONE, get(5), found(5, 1, 4)]))
+            witness.write_text(witness_of("d", [(0, None)]))
+            ended = command(["check", "--profile", "opensearch", history, witness])
+            self.assertEqual(ended, (0, "verified docs=1 calls=2 left_out=0 gets=1\n", ""))
+            self.assertEqual(command(["check", history, witness])[0], 1)
+
+    def test_options(self):
+        """An option that comes twice, and a value that it doesn't have."""
+        for words, why in (
+            (["--gets", "any", "--gets", "last"], "argument --gets: it comes twice"),
+            (["--writes", "twice"], "argument --writes: invalid choice: 'twice' (choose from 'once', 'repeated')"),
+        ):
+            with self.subTest(words):
+                status, out, err = command(["check", *words, "h", "w"])
+                self.assertEqual((status, out), (2, ""))
+                self.assertTrue(err.startswith("usage: ") and err.endswith(f"error: {why}\n"), err)
 
     def test_missing_file(self):
         with tempfile.NamedTemporaryFile() as witness:
@@ -308,7 +444,7 @@ class Explaining(ProgramTest):
         text = (TOP / "recording" / "casbench_recording" / "witness_checker.py").read_text(encoding="utf-8")
         imported = [it.split()[1] for it in text.splitlines() if it.startswith(("import ", "from "))]
         self.assertLessEqual(sum(1 for it in text.splitlines() if it.strip()), MOST_LINES)
-        self.assertEqual(imported, ["json", "contextlib", "dataclasses", "typing"])
+        self.assertEqual(imported, ["json", "bisect", "contextlib", "dataclasses", "itertools", "typing"])
 
 
 if __name__ == "__main__":

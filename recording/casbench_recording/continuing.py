@@ -12,8 +12,9 @@ import os
 import time
 from typing import Callable, Dict, List, Optional, Sequence, Tuple
 
-from .history import MOST_EVENTS, Call, CallError, CallWriter, Ended, Ending, History, HistoryError, Operation, members_of_call
-from .past import UNKNOWN, Beginning, Conflicts, Past, told_by
+from .history import MOST_EVENTS, Call, CallError, CallWriter, Ended, Ending, History, HistoryError, Operation, Reply, members_of_call
+from .past import UNKNOWN, Beginning, Past, told_by
+from .reading import STRICT, Reading
 
 PART = 400_000
 """With how many calls a part takes no more documents, if nothing else is said."""
@@ -107,8 +108,8 @@ class Document:
 
     __slots__ = ("past", "shard", "part", "is_left")
 
-    def __init__(self, shard: int) -> None:
-        self.past = Past()
+    def __init__(self, shard: int, reading: Reading) -> None:
+        self.past = Past(reading)
         self.shard = shard
         self.part: Optional[Part] = None
         # whether it is recorded no longer
@@ -141,7 +142,7 @@ class WholeCall(Call):
 
 
 class Continuing(CallWriter):
-    """The parts of a directory, which is made. Any thread may use it, as a `History`.
+    """The parts of a directory, which is made, to be judged in a reading. Any thread may use it, as a `History`.
 
     The numbers of its calls are those of the whole recording; each part numbers its calls anew. Where a line can't be written
     HistoryError is raised, as by a `History`.
@@ -151,15 +152,15 @@ class Continuing(CallWriter):
         self,
         folder: str,
         part: int = PART,
-        conflicts: Conflicts = Conflicts.PLAIN,
+        reading: Reading = STRICT,
         most_events: int = MOST_EVENTS,
         clock: Callable[[], float] = time.time,
     ) -> None:
         super().__init__(folder)
         # is told of each document that moves, with what its next part begins with, before its call there is returned
         self.heed_move: Callable[[str, Beginning], object] = lambda id, beginning: None
-        self._conflicts = conflicts
-        self._most_events = min(most_events, MOST_EVENTS)
+        self._reading = reading
+        self._most_events = min(most_events, reading.most_events)
         self._most_calls = min(part, self._most_events // 2)
         self._clock = clock
         self._documents: Dict[str, Document] = {}
@@ -218,7 +219,7 @@ class Continuing(CallWriter):
         document = self._documents.get(operation.id)
         if document is None:
             members_of_call(operation)
-            document = self._documents[operation.id] = Document(operation.shard)
+            document = self._documents[operation.id] = Document(operation.shard, self._reading)
         if document.shard != operation.shard:
             raise CallError(f"the document {operation.id!r} is on shard {document.shard}, and not on {operation.shard}")
         if document.is_left or document.place() is None and not self._can_move(document):
@@ -227,7 +228,7 @@ class Continuing(CallWriter):
 
     def _can_move(self, document: Document) -> bool:
         """Whether another part can begin with the document. If it can't the document is recorded no longer."""
-        beginning = document.past.beginning(self._conflicts)
+        beginning = document.past.beginning()
         document.is_left = len(beginning.lost) > MOST_LOST or beginning.calls >= self._most_events // 2
         if document.is_left:
             self._lose_in_part(document)
@@ -251,7 +252,7 @@ class Continuing(CallWriter):
     def _move(self, id: str, document: Document) -> Part:
         """Moves a document to the newest part."""
         self._lose_in_part(document)
-        beginning = document.past.beginning(self._conflicts)
+        beginning = document.past.beginning()
         part = self._newest(beginning.calls + 1)
         part.begin(id, document.shard, beginning)
         if document.part is not None:
@@ -315,14 +316,18 @@ class Continuing(CallWriter):
     def end_all(self, endings: Sequence[Ending]) -> None:
         with self._lock:
             by_part: Dict[Part, List[Ending]] = {}
-            ending = [(self._open[it.number], reply) for it, reply in endings if it.number in self._open]
-            for whole, reply in ending:
+            ending: Dict[WholeCall, Optional[Reply]] = {}
+            for it, reply in endings:
+                if it.number in self._open:
+                    # (of two endings of a call the first one counts)
+                    ending.setdefault(self._open[it.number], reply)
+            for whole, reply in ending.items():
                 own = whole.recorded
                 if own is not None:
                     by_part.setdefault(whole.part, []).append((own, reply))
             for part, its in by_part.items():
                 part.history.end_all(its)
-            for whole, reply in ending:
+            for whole, reply in ending.items():
                 self._end(whole, reply)
 
     def _still_open(self, call: Call) -> WholeCall:
@@ -389,4 +394,3 @@ def add_part_options(add: Callable[..., object]) -> None:
     """Adds the options of a recorder that goes on without end."""
     add("--parts", dest="part", action="store_const", const=PART, help=f"OUT is a directory of parts of {PART} calls: the recording has no end")
     add("--part", type=part_of, metavar="N", help="the same, with parts of N calls")
-    add("--conflicts", choices=[it.value for it in Conflicts], default="plain", help="how the recording will be judged (plain)")

@@ -391,15 +391,18 @@ class History(CallWriter):
             self._open.remove(number)
 
     def end_all(self, endings: Sequence[Ending]) -> None:
-        rests = [(call.number, rest_of_reply(*reply) if reply is not None else None) for call, reply in endings]
+        rests: Dict[int, Optional[str]] = {}
+        for call, reply in endings:
+            # (of two endings of a call the first one counts)
+            rests.setdefault(call.number, rest_of_reply(*reply) if reply is not None else None)
         with self._lock:
             if not self.has_ended:
-                self._end_calls([it for it in rests if it[0] in self._open])
+                self._end_calls([it for it in rests.items() if it[0] in self._open])
 
     def lose(self, calls: Sequence[Call]) -> None:
         with self._lock:
             if not self.has_ended:
-                self._lose([it.number for it in calls if it.number in self._open])
+                self._lose([number for number in dict.fromkeys(it.number for it in calls) if number in self._open])
 
     def end(self) -> None:
         """Writes the calls that are open as lost, and closes the file; later calls, and endings of one call, raise Ended.

@@ -3,6 +3,10 @@
 A recording without end is cut into parts, each a history in its own right. A document moves from one part to the next at a moment of
 its own. Its next part begins with two lines that state the last version known of it, followed by its lost writes that may still take
 effect, lost again. If an order explains the whole recording, one explains each part; docs/RECORDING.md says why.
+
+A reading may take replies to say less. If any copy may answer a get, what it shows isn't known to last. If writes are repeated, a lost one
+may take effect again after it was seen. What was answered is over: the store performs a write again before it answers, and so it does what
+a conflict hides.
 """
 
 import json
@@ -11,13 +15,7 @@ from enum import Enum
 from typing import Dict, List, NamedTuple, Optional
 
 from .history import CONFLICT, WRITES_A_VALUE, Call, Operation, Pair, is_whole, pair_of, value_of
-
-
-class Conflicts(Enum):
-    """How a conflict is read: as a write that was not performed, or as one that may have been performed all the same."""
-
-    PLAIN = "plain"
-    MAYBE = "maybe"
+from .reading import STRICT, Conflicts, Gets, Reading
 
 
 class Version(NamedTuple):
@@ -101,21 +99,22 @@ class Beginning:
 
 
 class Past:
-    """What of a document's past its later calls depend on. It holds as much as may still count, and not every call."""
+    """What of a document's past its later calls depend on, in a reading. It holds as much as may still count, and not every call."""
 
-    __slots__ = ("version", "_open", "_lost_blind", "_lost_conditional", "_refused", "_conflicts")
+    __slots__ = ("version", "_reading", "_open", "_lost_blind", "_lost_conditional", "_refused", "_refusals")
 
-    def __init__(self) -> None:
-        # the version with the greatest pair that a reply showed
+    def __init__(self, reading: Reading = STRICT) -> None:
+        # the version with the greatest pair that a reply showed, of those that last
         self.version: Optional[Version] = None
-        # the calls that are open, of each how many conflicts had been answered on the document when it was made
+        self._reading = reading
+        # the calls that are open, of each how many refusals had been taken when it was made
         self._open: Dict[Call, int] = {}
         # writes of unknown outcome that may still take effect: those without a condition, and those with one
         self._lost_blind: List[Operation] = []
         self._lost_conditional: List[Operation] = []
-        # the last of the writes that were answered with a conflict, and how many there were in all
+        # the last of the writes that were answered with a conflict and may have been performed, and how many there were in all
         self._refused: List[Operation] = []
-        self._conflicts = 0
+        self._refusals = 0
 
     @property
     def is_at_rest(self) -> bool:
@@ -129,21 +128,41 @@ class Past:
 
     def called(self, call: Call) -> None:
         """Takes a call."""
-        self._open[call] = self._conflicts
+        self._open[call] = self._refusals
 
     def ended(self, call: Call, told: Told) -> None:
         """Takes what became of an open call."""
-        operation, conflicts = call.operation, self._open.pop(call)
+        operation, refusals = call.operation, self._open.pop(call)
         if told.version is not None:
-            self._shown(told.version, told.outcome, self._conflicts - conflicts)
-        elif told is REFUSED:
+            if told.outcome is Outcome.WRITTEN or self._reading.gets is Gets.LAST:
+                self._shown(told.version, told.outcome, self._refusals - refusals)
+        elif told is REFUSED and self._may_be_performed(operation):
             self._refused.append(operation)
-            self._conflicts += 1
+            self._refusals += 1
         elif told is UNKNOWN and operation.op != "get":
             (self._lost_blind if operation.condition is None else self._lost_conditional).append(operation)
 
+    def _may_be_performed(self, refused: Operation) -> bool:
+        """Whether a write that was just answered with a conflict may have been performed behind the version.
+
+        A create of a document that is there takes a delete before it, which is not answered either.
+        """
+        if self._reading.conflicts is Conflicts.PLAIN:
+            return False
+        if refused.op != "create" or self.version is None or self.version.value is None:
+            return self._may_still_follow(refused)
+        return any(it.op == "delete" and self._may_still_follow(it) for it in self._undecided())
+
+    def _may_still_follow(self, operation: Operation) -> bool:
+        """Whether a write may take effect after the last version."""
+        return self.version is None or may_follow(operation, self.version)
+
+    def _undecided(self) -> List[Operation]:
+        """The writes of which it isn't known whether they were performed or will be, and the gets that are open."""
+        return [*self._lost_blind, *self._lost_conditional, *(it.operation for it in self._open), *self._refused]
+
     def _shown(self, version: Version, outcome: Outcome, since: int) -> None:
-        """Takes a version that the reply to a call shows, with how many conflicts were answered since the call was made.
+        """Takes a version that lasts and that the reply to a call shows, with how many refusals were taken since the call was made.
 
         A write that was answered with a conflict before takes no pair past that version, so it is dropped.
         """
@@ -158,25 +177,19 @@ class Past:
 
     def _drop_writer_of(self, version: Version) -> None:
         """Drops the lost write that took a version which a get found, if only one can have: it took effect, and won't again."""
-        lost = self._lost_blind + self._lost_conditional
-        others = [it.operation for it in self._open] + self._refused
-        writers = [it for it in lost + others if it.op in WRITES_A_VALUE and it.value == version.value and may_precede(it, version)]
-        if len(writers) != 1:
-            return
-        for lost in (self._lost_blind, self._lost_conditional):
-            if any(it is writers[0] for it in lost):
-                lost[:] = [it for it in lost if it is not writers[0]]
+        undecided = [it for it in self._undecided() if it.op in WRITES_A_VALUE and it.value == version.value]
+        writers = [it for it in undecided if may_precede(it, version)]
+        if len(writers) == 1 and not self._reading.is_performed_twice(writers[0].op, writers[0].condition is not None):
+            self._lost_blind = [it for it in self._lost_blind if it is not writers[0]]
+            self._lost_conditional = [it for it in self._lost_conditional if it is not writers[0]]
 
-    def beginning(self, conflicts: Conflicts) -> Beginning:
-        """What the document's next part begins with, if the recording is to be judged in this reading of a conflict.
+    def beginning(self) -> Beginning:
+        """What the document's next part begins with.
 
         Calls that are open are among the lost ones: a document may also move before it is at rest. Then replies to those calls belong
         to neither part.
         """
-        lost = self._lost_blind + self._lost_conditional
-        lost += [it.operation for it in self._open if it.operation.op != "get"]
-        lost += self._refused if conflicts is Conflicts.MAYBE else []
-        return Beginning(self.version, [it for it in lost if self.version is None or may_follow(it, self.version)])
+        return Beginning(self.version, [it for it in self._undecided() if it.op != "get" and self._may_still_follow(it)])
 
 
 def may_follow(operation: Operation, version: Version) -> bool:

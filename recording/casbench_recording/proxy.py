@@ -37,8 +37,8 @@ from .inspection import Inspector, Shape
 from .judge import Judge
 from .loop import Listener, Loop, Stream
 from .parts import Parts
-from .past import Conflicts
 from .progress import Progress
+from .reading import add_reading_options, reading_of
 from .refusal import refusal
 from .routes import shown_request
 from .tls import NO_RENEGOTIATION
@@ -254,6 +254,7 @@ def words_of(arguments: Sequence[str]) -> argparse.Namespace:
     add("--created-only", action="store_true", help="judge only documents that are seen created, in an index that isn't empty")
     add("--by-shard", action="store_true", help="write a file for each shard, into a folder that is made")
     add_part_options(add)
+    add_reading_options(add)
     add_watch_options(add)
     add("--disturb", type=read_plan, metavar="PLAN", default=[], help="run the commands of this plan meanwhile, to disturb the cluster")
     add("--stop-when-ended", action="store_true", help="end the proxy too when the recording ends before its time")
@@ -265,6 +266,7 @@ def words_of(arguments: Sequence[str]) -> argparse.Namespace:
         parser.error("--ca-file is for an address that begins with https")
     if setting.by_shard and setting.part is not None:
         parser.error("--by-shard and --parts exclude each other: a part has the calls of all shards")
+    setting.reading = reading_of(setting)
     return setting
 
 
@@ -304,8 +306,8 @@ def proxy_of(setting: argparse.Namespace) -> Proxy:
 def history_of(setting: argparse.Namespace) -> Histories:
     """The file that is written, or the directory."""
     if setting.part is not None:
-        return Continuing(setting.file, setting.part, Conflicts(setting.conflicts))
-    return Parts(setting.file) if setting.by_shard else History(setting.file)
+        return Continuing(setting.file, setting.part, setting.reading)
+    return (Parts if setting.by_shard else History)(setting.file, setting.reading.most_events)
 
 
 def counts_of(judge: Judge) -> Tuple[int, int]:

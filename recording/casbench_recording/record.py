@@ -28,14 +28,11 @@ from .cluster import START_PATIENCE, Answer, Cluster, ClusterError, Connection, 
 from .console import ENDED_EARLY, counted
 from .continuing import Continuing, add_part_options
 from .disturb import Disturber, read_plan
-from .history import MOST_EVENTS, Body, Call, CallWriter, History, HistoryError, Operation, Pair, pair_of
+from .history import Body, Call, CallWriter, History, HistoryError, Operation, Pair, pair_of
 from .load import ANY_NUMBER, MIXTURE, WRITES, Habits, Load
-from .past import Conflicts
 from .progress import Progress
+from .reading import add_reading_options, reading_of
 from .watcher import Watcher, add_watch_options, watch_options
-
-MOST_CALLS = MOST_EVENTS // 2
-"""The most calls of one history: a call with its ending is two events."""
 
 TURNS = ",".join(f"{kind}={weight}" for kind, weight in {**MIXTURE, "bulk": 1}.items())
 """How often each kind of turn is drawn, where the words don't say."""
@@ -270,7 +267,9 @@ def load_of(setting: argparse.Namespace, recording: CallWriter, stop: Stop) -> L
 
 def recording_of(setting: argparse.Namespace) -> CallWriter:
     """The file that is written, or the directory with one for each part."""
-    return History(setting.file) if setting.part is None else Continuing(setting.file, setting.part, Conflicts(setting.conflicts))
+    if setting.part is not None:
+        return Continuing(setting.file, setting.part, setting.reading)
+    return History(setting.file, setting.reading.most_events)
 
 
 def tell_fault(text: str) -> None:
@@ -317,6 +316,7 @@ def words_of(arguments: Optional[Sequence[str]]) -> argparse.Namespace:
     add("--timeout", type=number_from(0.001, float), default=10.0, help="seconds to wait for an answer (10)")
     add("--patience", type=number_from(0, float), default=60.0, help="seconds to wait for a connection (60)")
     add_part_options(add)
+    add_reading_options(add)
     add_watch_options(add)
     add("--disturb", type=read_plan, metavar="PLAN", default=[], help="run the commands of this plan meanwhile, to disturb the cluster")
     add("--replicas", type=number_from(0), help="how many replicas the index has (the cluster's default)")
@@ -327,8 +327,10 @@ def words_of(arguments: Optional[Sequence[str]]) -> argparse.Namespace:
     setting.index = urllib.parse.quote(setting.index, safe="")
     if setting.ca_file is not None and all(it.scheme != "https" for it in setting.urls):
         parser.error("--ca-file is for an address that begins with https")
-    if setting.part is None and setting.seconds is None and setting.clients * setting.calls > MOST_CALLS:
-        parser.error(f"over {MOST_CALLS} calls, the most of one history: record it in parts, by --parts")
+    setting.reading = reading_of(setting)
+    most_calls = setting.reading.most_events // 2
+    if setting.part is None and setting.seconds is None and setting.clients * setting.calls > most_calls:
+        parser.error(f"over {most_calls} calls, the most of one history: record it in parts, by --parts")
     return setting
 
 

@@ -5,6 +5,7 @@ from bisect import bisect_left
 from typing import Any, Collection, Dict, Iterable, List, NamedTuple, Optional, Tuple
 
 from .history import pair_of
+from .reading import STRICT, Conflicts, Failed, Reading
 
 Version = Tuple[str, int, int]
 """A version of a document: its id, its term and its sequence number."""
@@ -13,35 +14,46 @@ Version = Tuple[str, int, int]
 class Call:
     """A call: its document, where its lines stand, and the version that its reply shows or asks for."""
 
-    __slots__ = ("number", "id", "is_write", "is_answered", "result", "made", "stands_on", "line", "ending")
+    __slots__ = ("number", "id", "op", "has_condition", "is_refused", "is_void", "result", "made", "stands_on", "line", "ending")
 
     def __init__(self, event: Dict[str, Any], line: int) -> None:
         self.number: int = event["n"]
         self.id: str = event["id"]
-        self.is_write: bool = event["op"] != "get"
-        self.is_answered = False
+        self.op: str = event["op"]
+        self.has_condition = "if_seq_no" in event
+        self.is_refused = False
+        # whether its lost line states that nothing was performed
+        self.is_void = False
         self.result = ""
         self.made: Optional[Version] = None
         self.stands_on: Optional[Version] = None
         self.line = line
         self.ending: Optional[int] = None
-        if "if_seq_no" in event:
+        if self.has_condition:
             self.stands_on = (self.id, event["if_primary_term"], event["if_seq_no"])
 
     def end(self, event: Dict[str, Any], line: int) -> None:
         """Takes an ending. What a conflict asked for may be gone, so it stands on nothing."""
         self.ending = line
         if event["e"] != "reply":
+            self.is_void = event.get("void") is True
             return
         body = event.get("body")
         pair = pair_of(body)
-        self.is_answered = pair is not None or event.get("status") in (404, 409)
-        if self.is_write:
+        self.is_refused = event.get("status") == 409
+        if self.op != "get":
             self.made = (self.id, *pair) if pair else None
             self.stands_on = self.stands_on if pair else None
             self.result = body.get("result", "") if isinstance(body, dict) else ""
         elif pair:
             self.stands_on = (self.id, *pair)
+
+
+class Record(NamedTuple):
+    """What a place of a witness is of: the number of a call, or its write that the store may have performed again."""
+
+    number: int
+    is_again: bool
 
 
 class Place(NamedTuple):
@@ -52,12 +64,13 @@ class Place(NamedTuple):
 
 
 class Recorded:
-    """The calls of a history, and the text of some of them."""
+    """The calls of a history that is judged in a reading, and the text of some of them."""
 
-    def __init__(self, lines: Iterable[bytes]) -> None:
+    def __init__(self, lines: Iterable[bytes], reading: Reading = STRICT) -> None:
+        self.reading = reading
         self.lines = [it.rstrip(b"\n") + b"\n" for it in lines if it.strip()]
         self.calls: Dict[int, Call] = {}
-        self.places: Dict[int, Place] = {}
+        self.places: Dict[Record, Place] = {}
 
     def read(self) -> None:
         """Reads the calls. The text is one that casbench takes."""
@@ -71,17 +84,34 @@ class Recorded:
 
     def read_witness(self, text: bytes) -> None:
         """Notes the places that a witness gives to the calls. The text is one that casbench takes."""
-        records: Dict[str, List[int]] = {}
+        records: Dict[str, List[Record]] = {}
         for it in self.calls.values():
-            records.setdefault(it.id, []).append(it.number)
-        numbers: List[int] = []
+            records.setdefault(it.id, []).extend(self.records_of(it))
+        its: List[Record] = []
         for rank, line in enumerate(filter(None, map(bytes.strip, text.split(b"\n")))):
             members = json.loads(line)
             if "doc" in members:
-                numbers = records[members["doc"]]
+                its = records[members["doc"]]
             else:
                 pair = {key: members[key] for key in ("seq", "term") if key in members}
-                self.places[numbers[members["rec"]]] = Place(rank, pair)
+                self.places[its[members["rec"]]] = Place(rank, pair)
+
+    def does_nothing(self, call: Call) -> bool:
+        """Whether the call changes nothing: it is a get, or states by its loss that it was not performed."""
+        return call.op == "get" or call.is_void and self.reading.failed is Failed.TRUSTED
+
+    def is_repeated(self, call: Call) -> bool:
+        """Whether the store may have performed the call's write again."""
+        return not self.does_nothing(call) and self.reading.is_performed_twice(call.op, call.has_condition)
+
+    def is_decided(self, call: Call) -> bool:
+        """Whether it is known which writes the store performed of the call."""
+        is_known = call.made is not None or call.is_refused and self.reading.conflicts is Conflicts.PLAIN
+        return self.does_nothing(call) or is_known and not self.is_repeated(call)
+
+    def records_of(self, call: Call) -> List[Record]:
+        """The records of a call, as a witness counts them."""
+        return [Record(call.number, it) for it in ((False, True) if self.is_repeated(call) else (False,))]
 
     def text_of(self, kept: Collection[int]) -> bytes:
         """The lines of these calls."""
@@ -94,14 +124,15 @@ class Recorded:
         entries: Dict[str, List[Tuple[Place, int]]] = {}
         records: Dict[str, int] = {}
         for call in self.in_order(kept):
-            record = records[call.id] = records.get(call.id, -1) + 1
             places = entries.setdefault(call.id, [])
-            if call.number in self.places:
-                places.append((self.places[call.number], record))
+            for record in self.records_of(call):
+                number = records[call.id] = records.get(call.id, -1) + 1
+                if record in self.places:
+                    places.append((self.places[record], number))
         rows: List[Dict[str, Any]] = []
         for id, places in entries.items():
             rows.append({"doc": id})
-            rows += [{"rec": record, **place.pair} for place, record in sorted(places, key=lambda it: it[0].rank)]
+            rows += [{"rec": number, **place.pair} for place, number in sorted(places, key=lambda it: it[0].rank)]
         return b"".join(json.dumps(it, separators=(",", ":")).encode() + b"\n" for it in rows)
 
     def in_order(self, numbers: Iterable[int]) -> List[Call]:

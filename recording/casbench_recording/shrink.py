@@ -2,10 +2,11 @@
 
     python3 -m casbench_recording.shrink carts.ndjson >few.ndjson
 
-The answer of casbench to what is left is the same: `no` or `refuted`, of a refutation the kind and the calls of the evidence, of a
-`no` the call at whose reply the search fails. With `--witness FILE`, which shows that the `no` is a false alarm, the part of the witness
-that is of the calls that are left stays verified. Each line that is left stands as it was, in its order, and none of the calls can be
-left out alone. What is left is written at the end, and not if it would go into the history itself.
+It takes the options of a check, such as `--profile opensearch`. The answer of casbench to what is left is the same: `no` or `refuted`, of
+a refutation the kind and the calls of the evidence, of a `no` the call at whose reply the search fails. With `--witness FILE`, which shows
+that the `no` is a false alarm, the part of the witness that is of the calls that are left stays verified. Each line that is left stands as
+it was, in its order, and none of the calls can be left out alone. What is left is written at the end, and not if it would go into the
+history itself.
 """
 
 import argparse
@@ -16,6 +17,7 @@ import subprocess
 import sys
 from typing import BinaryIO, Dict, Iterable, List, NamedTuple, Optional, Sequence, Set, Tuple
 
+from .reading import STRICT, Reading, add_reading_options, is_ruling_out, reading_of
 from .recorded import Beginnings, Call, Recorded, Version
 
 FIRST_WINDOW, WINDOW_FACTOR = 64, 4
@@ -27,7 +29,8 @@ class ShrinkError(Exception):
 
 
 class Answer(NamedTuple):
-    """What has to stay: the word, the kind of evidence, and the calls that are named. A `no` names one, and may be proved or not."""
+    """What has to stay: the word, the kind of evidence, and the calls that are named. A `no` names one, and may be proved or not: it is if
+    of each write of the document the outcome is known."""
 
     word: str
     kind: str
@@ -38,10 +41,10 @@ class Answer(NamedTuple):
 class Program:
     """The program, with the words of its check."""
 
-    def __init__(self, path: str, conflicts: str = "plain", is_ruling_out: bool = False) -> None:
+    def __init__(self, path: str, reading: Reading = STRICT, is_ruling_out: bool = False) -> None:
         self.path = path
-        self.conflicts = ["--conflicts", conflicts]
-        self.words = [*self.conflicts, *(["--rule-out"] if is_ruling_out else [])]
+        self.reading = reading
+        self.words = [*reading.words(), *(["--rule-out"] if is_ruling_out else [])]
         self.runs = 0
 
     def answer(self, text: bytes) -> str:
@@ -53,7 +56,7 @@ class Program:
         with open(os.memfd_create("witness"), "wb") as file:
             file.write(witness)
             file.flush()
-            return self.run(["verify", "/dev/stdin", f"/dev/fd/{file.fileno()}", *self.conflicts], text, [file.fileno()])
+            return self.run(["verify", "/dev/stdin", f"/dev/fd/{file.fileno()}", *self.reading.words()], text, [file.fileno()])
 
     def run(self, words: Sequence[str], text: bytes, files: Sequence[int] = ()) -> str:
         """The line that a command writes."""
@@ -70,7 +73,7 @@ class Shrinker:
     def __init__(self, lines: Iterable[bytes], program: Program, witness: Optional[bytes] = None) -> None:
         self.program = program
         self.has_witness = witness is not None
-        self.recorded = Recorded(lines)
+        self.recorded = Recorded(lines, program.reading)
         text = b"".join(self.recorded.lines)
         told = program.answer(text)
         if not told.startswith(("no ", "refuted ")):
@@ -97,7 +100,7 @@ class Shrinker:
             return Answer(word, fields.get("kind", ""), calls, True)
         number = int(fields["call"])
         id = self.calls[number].id
-        is_proved = all(it.is_answered for it in map(self.calls.__getitem__, kept) if it.is_write and it.id == id)
+        is_proved = all(self.recorded.is_decided(it) for it in map(self.calls.__getitem__, kept) if it.id == id)
         return Answer(word, "", (number,), is_proved)
 
     def calls_by_version(self) -> Dict[Version, List[int]]:
@@ -220,7 +223,7 @@ def words_of(arguments: Optional[Sequence[str]]) -> argparse.Namespace:
     add("file", help="the history")
     add("--program", help="the casbench that is asked (./casbench, or that on the path)")
     add("--rule-out", action="store_true", help="as for a check")
-    add("--conflicts", choices=("plain", "maybe"), default="plain", help="as for a check (plain)")
+    add_reading_options(add)
     add("--witness", help="a witness of the history, which shows that a no is a false alarm: its part that is left stays verified")
     add("--few-witness", help="a file that this part is written to, and must not be there")
     setting = parser.parse_args(arguments)
@@ -254,7 +257,7 @@ def main(arguments: Optional[Sequence[str]] = None) -> int:
     """Cuts down by the words given, and returns the exit status: 0, or 1 if there is nothing to cut down, or it can't be written."""
     setting = words_of(arguments)
     try:
-        program = Program(setting.program or program_at_hand(), setting.conflicts, setting.rule_out)
+        program = Program(setting.program or program_at_hand(), reading_of(setting), is_ruling_out(setting))
         with open(setting.file, "rb") as lines:
             refuse_as_output(lines)
             shrinker = Shrinker(lines, program, read_file(setting.witness))

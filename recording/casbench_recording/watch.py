@@ -1,11 +1,11 @@
 """Checks a recording while it grows, and runs a command at the first fault that is proved.
 
-    python3 -m casbench_recording.watch carts.ndjson --every 5 -- docker pause node-1 node-2 node-3
+    python3 -m casbench_recording.watch carts.ndjson --profile opensearch --every 5 -- docker pause node-1 node-2 node-3
 
-OUT is a history, or a directory of histories. `refuted` is final: what refutes the lines so far refutes every history that begins with
-them. `yes` and `no` are not: docs/RECORDING.md says why. At the first `refuted` it prints what `explain` says, runs COMMAND, and exits
-with status 1. Ctrl-C ends it after a last check. The exit status is then that of the worst answer: 0 for `yes`, 1 for `no`, 2 if a
-text is no history or there is none.
+It takes the options of a reading, as a check does, and rules documents out. OUT is a history, or a directory of histories. `refuted` is
+final: what refutes the lines so far refutes every history that begins with them. `yes` and `no` are not: docs/RECORDING.md says why. At
+the first `refuted` it prints what `explain` says, runs COMMAND, and exits with status 1. Ctrl-C ends it after a last check. The exit
+status is then that of the worst answer: 0 for `yes`, 1 for `no`, 2 if a text is no history or there is none.
 """
 
 import argparse
@@ -24,6 +24,7 @@ from typing import Dict, List, Optional, Sequence
 from .cluster import number_from
 from .console import counted, escaped
 from .continuing import GROWING
+from .reading import add_reading_options, reading_of
 from .shrink import ShrinkError, program_at_hand
 from .snapshots import Answer, CheckError, Snapshot
 from .terms import TermReader, Terms
@@ -83,7 +84,7 @@ class Watch:
         # by the name of a history, those of all parts together
         self.terms: Dict[str, Terms] = {}
         self._program = setting.program or program_at_hand()
-        self._options = ["--rule-out", "--conflicts", setting.conflicts]
+        self._options = ["--rule-out", *reading_of(setting).words()]
         # (no check begins before this moment)
         self._rests_until = 0.0
 
@@ -230,12 +231,12 @@ def setting_of(arguments: Optional[Sequence[str]]) -> argparse.Namespace:
         own, command = own[:at], own[at + 1 :]
     parser = argparse.ArgumentParser(
         description="Checks a recording while it grows, and runs a command at the first fault that is proved.",
-        usage="%(prog)s OUT [--every S] [--conflicts plain|maybe] [--program PATH] [--delete-parts] [--until-closed] [-- COMMAND ..]",
+        usage="%(prog)s OUT [OPTIONS] [-- COMMAND ..]",
     )
     add = parser.add_argument
     add("out", metavar="OUT", help="the history, or the directory of histories")
     add("--every", type=number_from(0.1, float), default=EVERY, help="seconds between the beginnings of two rounds of checks (5)")
-    add("--conflicts", choices=("plain", "maybe"), default="plain", help="as for a check (plain)")
+    add_reading_options(add)
     add("--program", help="the casbench that checks (./casbench, or that on the path)")
     add("--delete-parts", action="store_true", help="delete finished parts that get yes")
     add("--until-closed", action="store_true", help="end, after a last check, when standard input ends")

@@ -9,6 +9,7 @@ import threading
 from typing import Callable, List, Optional, Sequence
 
 from .cluster import number_from
+from .reading import reading_of
 
 EVERY = 5.0
 """How many seconds lie between the beginnings of two rounds of checks, if nothing else is said."""
@@ -62,7 +63,7 @@ class Watcher:
 def watch_options(setting: argparse.Namespace) -> List[str]:
     """The options of the watch, from those of the recorder."""
     program = ["--program", setting.program] if setting.program is not None else []
-    return ["--every", str(setting.every), "--conflicts", setting.conflicts, *program]
+    return ["--every", str(setting.every), *reading_of(setting).words(), *program]
 
 
 def add_watch_options(add: Callable[..., object]) -> None:

@@ -2,8 +2,9 @@
 
     python3 -m casbench_recording.witness check HISTORY WITNESS
 
-prints what `casbench verify` prints and, if the witness isn't valid, a sentence about the calls. The check is `witness_checker`, which is
-written apart from the prover. `witness_by_log` makes the witness of a history from the changes in a store's own log.
+prints what `casbench verify` prints and, if the witness isn't valid, a sentence about the calls. It takes the options of a reading, such as
+`--profile opensearch`. The check is `witness_checker`, which is written apart from the prover. `witness_by_log` makes the witness of a
+history from the changes in a store's own log, for a strict check.
 """
 
 import argparse
@@ -12,6 +13,7 @@ from typing import Iterator, Mapping, NamedTuple, Optional, Sequence, Tuple
 
 from . import witness_checker
 from .history import Pair, compact
+from .reading import STRICT, Reading, add_reading_options, reading_of
 
 # From a log
 
@@ -74,7 +76,8 @@ def named(call: witness_checker.Call) -> str:
     asked = call.op if call.condition is None else f"{call.op} under {spelled(call.condition)}"
     shown = "" if call.pair is None else f" {spelled(call.pair)}"
     k = "" if call.found is None else f" with k={call.found}"
-    return f"call {call.number} ({asked}: {call.reply}{shown}{k})"
+    again = ", performed again" if call.is_again else ""
+    return f"call {call.number} ({asked}{again}: {call.reply}{shown}{k})"
 
 
 def version_named(last: Optional[Tuple[int, int]], k: Optional[int]) -> str:
@@ -97,6 +100,9 @@ SENTENCES = {
     "illegal": "The reply can't be that of {first}, since the document {id} {version} before the place.",
     "absent": "The document {id} has no place for an answered call, {first}.",
     "pair-twice": "One pair is taken by two calls of a shard, {first} and {second}.",
+    "no-writer": "No write that was made before the reply can have given the document {id} what was found by {first}.",
+    "stale-get": "An older version was found by {first} than was written by {second}, whose reply came before the get was made.",
+    "missed-write": "Nothing was found by {first}, though a reply came before it was made to {second}, and no delete can be behind that.",
 }
 """What is wrong, by the cause. `first` and `second` are calls, `version` is what the document is before a place."""
 
@@ -110,29 +116,34 @@ def sentence_of(fault: witness_checker.Broken) -> str:
     return told.format(id=compact(id), first=first, second=second, version=version_named(*version[0]) if version else "")
 
 
-def checked(history: bytes, witness: bytes, conflicts: str) -> Tuple[int, str]:
+def words_of(reading: Reading) -> witness_checker.Reading:
+    """The reading by the values of the options, as the checker takes it."""
+    return witness_checker.Reading(*(it.value for it in reading))
+
+
+def checked(history: bytes, witness: bytes, reading: Reading = STRICT) -> Tuple[int, str]:
     """The exit status of a check of the two texts, and what it prints."""
     try:
-        texts = witness_checker.Texts(history, witness)
-        left_out = witness_checker.check(texts, conflicts == "maybe")
+        counts = witness_checker.check(witness_checker.Texts(history, witness, words_of(reading)))
     except witness_checker.Refused as fault:
         return 2, f"refused {fault}"
     except witness_checker.Broken as fault:
         return 1, f"broken {fault.args[0]}\n{sentence_of(fault)}"
-    return 0, f"verified docs={len(texts.records)} calls={len(texts.calls)} left_out={left_out}"
+    gets = "" if counts.gets is None else f" gets={counts.gets}"
+    return 0, f"verified docs={counts.docs} calls={counts.calls} left_out={counts.left_out}{gets}"
 
 
 def main(arguments: Optional[Sequence[str]] = None) -> int:
     """Checks by the words given, and returns the exit status: 0 if the witness is valid, 1 if it isn't, 2 if a text is refused."""
-    parser = argparse.ArgumentParser(description="Checks a witness without casbench, by a checker of 150 lines.")
+    parser = argparse.ArgumentParser(description="Checks a witness without casbench, by a checker that shares nothing with it.")
     check = parser.add_subparsers(required=True).add_parser("check", help="says whether a witness is valid")
     check.add_argument("history", help="the history text")
     check.add_argument("witness", help="the witness text")
-    check.add_argument("--conflicts", choices=("plain", "maybe"), default="plain", help="as for casbench verify (plain)")
+    add_reading_options(check.add_argument)
     setting = parser.parse_args(arguments)
     try:
         with open(setting.history, "rb") as history, open(setting.witness, "rb") as witness:
-            status, told = checked(history.read(), witness.read(), setting.conflicts)
+            status, told = checked(history.read(), witness.read(), reading_of(setting))
     except OSError as fault:
         print(f"witness: {fault}", file=sys.stderr)
         return 4

@@ -3,9 +3,11 @@
 It shares nothing with casbench, its tests or the rest of this package, so that it can be read and trusted by itself."""
 
 import json
+from bisect import bisect_left
 from contextlib import suppress
-from dataclasses import dataclass
-from typing import Any, Callable, Dict, Iterator, List, Optional, Set, Tuple
+from dataclasses import dataclass, replace
+from itertools import accumulate
+from typing import Any, Callable, Dict, Iterable, Iterator, List, NamedTuple, Optional, Set, Tuple
 
 Members = Dict[str, Any]
 Pair = Tuple[int, int]  # primary term and sequence number, compared in this order
@@ -19,6 +21,18 @@ ROWS: Dict[Tuple[str, int, str], Tuple[str, Optional[bool]]] = {  # operation, s
     **{("delete", 200, '"deleted"'): ("deleted", True), ("delete", 404, '"not_found"'): ("not_found", False)},
     **{(op, 409, '"version_conflict_engine_exception"'): ("conflict", None) for op in ("index", "create", "delete")},
 }
+
+
+class Reading(NamedTuple):
+    """What the store promises: the values of casbench's options. Without one, that each reply shows the last change of its document."""
+
+    gets: str = "last"
+    conflicts: str = "plain"
+    writes: str = "once"
+    failed: str = "lost"
+
+
+STRICT = Reading()
 
 
 class Refused(Exception):
@@ -45,6 +59,12 @@ class Call:
     was_there: Optional[bool] = None
     pair: Optional[Pair] = None
     found: Optional[int] = None
+    is_void: bool = False  # whether its lost line states that nothing was performed
+    is_again: bool = False  # whether it is the second time that the store may have performed its write
+
+    def unanswered(self, reply: str) -> "Call":
+        """The call without its reply, in place of which these words stand."""
+        return replace(self, answered=None, reply=reply, was_there=None, pair=None, found=None)
 
 
 def number_in(members: Members, key: str, bits: int, least: int = 0) -> int:
@@ -57,6 +77,13 @@ def number_in(members: Members, key: str, bits: int, least: int = 0) -> int:
 def pair_in(members: Members, term: str, seq: str) -> Optional[Pair]:
     """The pair under the two keys, None if neither is there."""
     return (number_in(members, term, 63, 1), number_in(members, seq, 63)) if term in members or seq in members else None
+
+
+def truth_in(members: Members, key: str) -> bool:
+    """Whether the value under the key is true; if there is none it isn't."""
+    if type(members.get(key, False)) is not bool:
+        raise ValueError(key)
+    return bool(members.get(key))
 
 
 def id_in(members: Members, key: str) -> str:
@@ -97,7 +124,8 @@ def read(text: bytes, file: str, take: Callable[[Any], None]) -> None:
 class Texts:
     """What was read: the calls by number, the records of each document in the order of their lines, the entries of the witness."""
 
-    def __init__(self, history: bytes, witness: bytes) -> None:
+    def __init__(self, history: bytes, witness: bytes, reading: Reading = STRICT) -> None:
+        self.reading = reading
         self.calls: Dict[int, Call] = {}
         self.ended: Set[int] = set()
         self.records: Dict[str, List[Call]] = {}
@@ -106,13 +134,16 @@ class Texts:
         read(witness, "witness", self.take_place)
 
     def take_event(self, line: Members) -> None:
-        event, is_call = len(self.calls) + len(self.ended), line["e"] == "call"
+        # (the number behind that of a call is for the second time that its write is performed)
+        event, is_call = 2 * (len(self.calls) + len(self.ended)), line["e"] == "call"
         call = call_of(line, event) if is_call else self.calls[number_in(line, "n", 64)]
         first = self.records.get(call.id, [call])[0]
         if call.number in (self.calls if is_call else self.ended) or line["e"] not in EVENTS or call.shard != first.shard:
             raise ValueError(line)
         if line["e"] == "reply":
             hear(call, event, number_in(line, "status", 16), line.get("body"))
+        if line["e"] == "lost" and self.reading.failed == "trusted":
+            call.is_void = truth_in(line, "void")
         if is_call:
             self.calls[call.number] = call
             self.records.setdefault(call.id, []).append(call)
@@ -124,6 +155,19 @@ class Texts:
             self.entries.append((id_in(line, "doc"), []))
         else:
             self.entries[-1][1].append((number_in(line, "rec", 32), pair_in(line, "term", "seq")))
+
+
+def as_read(call: Call, reading: Reading) -> Iterator[Call]:
+    """What is judged in the place of a call. A void one does nothing, as a get; a reply that shows nothing is none; a write without a
+    condition may be performed again, before it is answered or later."""
+    if call.is_void:
+        yield replace(call, op="get", k=None, condition=None)
+        return
+    hides_get = reading.gets == "any" and call.reply in ("found", "missing")
+    hides_conflict = reading.conflicts == "unknown" and call.reply == "conflict"
+    yield call.unanswered(f"{call.reply}, which shows nothing") if hides_get or hides_conflict else call
+    if reading.writes == "repeated" and call.op != "get" and call.condition is None:
+        yield replace(call.unanswered("no reply"), made=call.made + 1, is_again=True)
 
 
 def version_after(call: Call, given: Optional[Pair], before: Version) -> Optional[Version]:
@@ -165,20 +209,110 @@ def taken_in(entry: int, places: List[Place], records: List[Call], is_maybe: boo
             raise Broken(f"entry={entry} cause=absent rec={record}", call.id, [call])
 
 
-def check(texts: Texts, is_maybe: bool) -> int:
-    """Returns how many calls stand in no place, raises Broken at the first fault. `is_maybe`: a conflict may hide a performed write."""
+def check_order(texts: Texts, records: Dict[str, List[Call]]) -> None:
+    """Raises Broken at the first fault of the entries, as an order of these records."""
     seen: Set[str] = set()
     takers: Dict[Tuple[int, Pair], List[Call]] = {}
     for entry, (id, places) in enumerate(texts.entries):
-        if id not in texts.records or id in seen:
+        if id not in records or id in seen:
             raise Broken(f"entry={entry} cause={'doc-twice' if id in seen else 'doc-stranger'}", id, [])
         seen.add(id)
-        for pair, call in taken_in(entry, places, texts.records[id], is_maybe):
+        for pair, call in taken_in(entry, places, records[id], texts.reading.conflicts == "maybe"):
             takers.setdefault((call.shard, pair), []).append(call)
-    for number, id in enumerate(texts.records):
+    for number, id in enumerate(records):
         if id not in seen:
-            raise Broken(f"doc={number} cause=doc-missing", id, texts.records[id][:1])
+            raise Broken(f"doc={number} cause=doc-missing", id, records[id][:1])
     for (shard, (term, seq)), calls in sorted(takers.items(), key=lambda it: it[0]):
         if len(calls) > 1:
             raise Broken(f"term={term} seq={seq} cause=pair-twice{f' shard={shard}' if shard else ''}", calls[0].id, calls)
-    return len(texts.calls) - sum(len(places) for _, places in texts.entries)
+
+
+def shown(call: Call) -> Pair:
+    """The pair that the reply shows, a lesser one than any if it shows none."""
+    return call.pair or (0, 0)
+
+
+class Greatest:
+    """Of performed writes the one with the greatest pair before a moment, if each counts from a moment of its own on."""
+
+    def __init__(self, writes: Iterable[Call], since: Callable[[Call], int]) -> None:
+        counted = sorted((it for it in writes if it.pair), key=since)
+        self.moments = [since(it) for it in counted]
+        self.greatest = list(accumulate(counted, lambda one, other: max(one, other, key=shown)))
+
+    def before(self, moment: int) -> Optional[Call]:
+        at = bisect_left(self.moments, moment)
+        return self.greatest[at - 1] if at else None
+
+
+class Writes:
+    """The writes of a document, by which its gets are judged one by one if any copy may answer them: it has what was answered before the get
+    was called, and maybe more."""
+
+    def __init__(self, calls: Iterable[Call], reading: Reading) -> None:
+        self.reading = reading
+        writes = [it for it in calls if it.op != "get" and not it.is_void]
+        self.givers: Dict[Optional[int], List[Call]] = {}
+        for it in writes:
+            self.givers.setdefault(it.k, []).append(it)
+        self.acknowledged = Greatest(writes, lambda it: it.answered or 0)
+        self.made = Greatest((it for it in writes if it.op != "delete"), lambda it: it.answered or 0)
+        deletes = [it for it in writes if it.op == "delete"]
+        self.deleted = Greatest(deletes, lambda it: it.made)
+        self.any_pair = [it.made for it in deletes if self.is_open(it) or reading.writes == "repeated" and it.condition is None]
+
+    def is_open(self, write: Call) -> bool:
+        """Whether what was heard of the write leaves open whether it was performed, and with which pair."""
+        return write.answered is None or write.reply == "conflict" and self.reading.conflicts != "plain"
+
+    def may_give(self, write: Call, get: Call) -> bool:
+        """Whether the write, which has the number that the get found, may have given the document the pair too, before it was answered."""
+        is_its_pair = write.pair == get.pair or self.is_open(write) or self.reading.writes == "repeated"
+        return write.op != "delete" and write.made < (get.answered or 0) and is_its_pair
+
+    def may_be_gone(self, made: Call, get: Call) -> bool:
+        """Whether a delete that was called before the get's reply may stand behind this write."""
+        replied = get.answered or 0
+        last = self.deleted.before(replied)
+        return min(self.any_pair, default=replied) < replied or last is not None and shown(made) < shown(last)
+
+    def fault_of(self, get: Call) -> Optional[Tuple[str, List[Call]]]:
+        """Why no copy can have answered the get so, and the calls that show it."""
+        if get.reply == "found":
+            if not any(self.may_give(it, get) for it in self.givers.get(get.found, ())):
+                return "no-writer", [get]
+            last = self.acknowledged.before(get.made)
+            return ("stale-get", [get, last]) if last is not None and shown(get) < shown(last) else None
+        made = self.made.before(get.made)
+        return None if made is None or self.may_be_gone(made, get) else ("missed-write", [get, made])
+
+
+def check_gets(texts: Texts, gets: List[Call]) -> None:
+    """Raises Broken at the first of these gets, in the order of their replies, that no copy can have answered so."""
+    writes = {id: Writes(calls, texts.reading) for id, calls in texts.records.items()}
+    for get in sorted(gets, key=lambda it: it.answered or 0):
+        fault = writes[get.id].fault_of(get)
+        if fault is not None:
+            cause, calls = fault
+            raise Broken(f"cause={cause} calls={','.join(str(it.number) for it in calls)}", get.id, calls)
+
+
+class Counts(NamedTuple):
+    """How many documents and calls there are, how many of these stand in no place, and how many gets, not among those, are judged one by
+    one: None if no get is."""
+
+    docs: int
+    calls: int
+    left_out: int
+    gets: Optional[int]
+
+
+def check(texts: Texts) -> Counts:
+    """Checks the witness, and the gets that are judged one by one; raises Broken at the first fault."""
+    records = {id: [it for call in calls for it in as_read(call, texts.reading)] for id, calls in texts.records.items()}
+    check_order(texts, records)
+    gets = [it for it in texts.calls.values() if texts.reading.gets == "any" and it.op == "get" and it.answered is not None]
+    check_gets(texts, gets)
+    placed = sum(not records[id][record].is_again for id, places in texts.entries for record, _ in places)
+    left_out = len(texts.calls) - placed - len(gets)
+    return Counts(len(texts.records), len(texts.calls), left_out, len(gets) if texts.reading.gets == "any" else None)
