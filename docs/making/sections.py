@@ -113,11 +113,12 @@ SECTIONS = (
     (
         "Readings",
         "A store may promise less than that each reply shows the last change. A reading says what, turns a history "
-        "into one that the strict check judges, and says which gets are judged one by one. No command of the "
-        "program takes a reading yet: the program reads each history strictly.",
+        "into one that the strict check judges, and says which gets are judged one by one. What is found in the "
+        "history that is judged is reported by the calls and events of the text.",
         (
             "readings/specs/Reading.antt",
             "readings/specs/Gets.antt",
+            "readings/specs/WayBack.antt",
             "readings/specs/Laws.antt",
         ),
     ),
@@ -218,6 +219,7 @@ SECTIONS = (
             "casbench/specs/Outcomes.antt",
             "casbench/specs/Each.antt",
             "casbench/specs/Objects.antt",
+            "casbench/specs/Readings.antt",
             "casbench/specs/Requests.antt",
             "casbench/specs/Exit.antt",
             "casbench/specs/Faults.antt",
