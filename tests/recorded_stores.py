@@ -94,7 +94,7 @@ def recorded(store, folder, name, *arguments):
 def answer_by_log(program, history, witness):
     """What the program says of the witness by the store's own log, and the package's checker too."""
     texts = history.read_bytes(), witness.read_bytes()
-    line, own = asked(program, "verify", *texts)[1], checked(*texts, "plain")[1]
+    line, own = asked(program, "verify", *texts)[1], checked(*texts)[1]
     if line.strip() != own.partition("\n")[0]:
         raise AssertionError(f"{line}, and the checker says {own}")
     return line

@@ -52,8 +52,9 @@ LEAST = {
 # What README says, word for word. The first one is checked in each settled history that gets `no`; of the second one
 # the first half in each that has an order, and the second half by the fixed histories.
 SENTENCES = (
-    "Where every write has a reply (under `--conflicts maybe`, a reply other than a conflict), a `no` is proved: there is no order",
-    "With `--rule-out` a `no` never becomes `refuted` if an order exists; not every history without an order is refuted",
+    "Where every write has a reply that [counts](docs/FORMATS.md#by-check), a `no` is proved: there is no order.",
+    "`refuted`: proved. It names one or two calls, and nothing explains the history under the reading",
+    "Any other `no` accuses nobody",
 )
 
 # How the sentence begins that says how sure a story is.
