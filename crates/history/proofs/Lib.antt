@@ -6,7 +6,6 @@ mod TextLaws
 mod RuledLines
 mod StrictTexts
 mod RuledTexts
-mod RuledInput
 mod CallLines
 mod WrittenText
 mod BulkTextLemmas

@@ -8,7 +8,6 @@
 #![tactic(auto)]
 
 mod bulk_writer;
-mod history_input;
 pub mod laws;
 mod line_event;
 mod line_fault;
@@ -24,7 +23,6 @@ mod written_line;
 
 pub use bulk_writer::bulk_text;
 pub use events::{Event, Front, HashKeys, HistFault, History, MOST_EVENTS, Rec, Seen};
-pub use history_input::read_text_from;
 pub use reader::{HistoryReader, read};
 pub use text_read::TextRead;
 pub use text_reader::{TextReader, read_text};

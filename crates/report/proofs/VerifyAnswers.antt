@@ -136,7 +136,7 @@ verify_broken reading read conflicts events entries fault same way first none in
 -- a witness text that is refused
 pub witness_refused : (reading : Reading) (read : TextRead) (fault : TextFault) (input witness : List ℕ) → IsReadBy reading input read → witness_text witness ≡ Err fault
     → IsVerifyAnswer reading input witness (status_of (reported.RefusedWitness fault)) (line_of (reported.RefusedWitness fault))
-witness_refused reading read fault input witness by refused = inr (fault, refl, (read.history, by.is_text), refused)
+witness_refused reading read fault input witness by refused = inr (fault, refl, (read, by, refused))
 
 -- ---- both inputs
 

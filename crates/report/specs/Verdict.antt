@@ -298,17 +298,12 @@ abbrev pub IsRefusedHistory : Reading → List ℕ → List ℕ → Type 0
 IsRefusedHistory reading history line =
     (fault : TextFault) × (line ≡ refused_file_line (codes "history") fault.line fault.cause) × (history_text_by (rules_of reading) history ≡ Err fault)
 
--- the input is a text of some history
--- Source: profile.
-abbrev pub IsSomeHistory : List ℕ → Type 0
-IsSomeHistory input = (events : List Event) × IsHistoryText input events
-
--- the one input is a text of some history, and the other is no witness text: the line is a
+-- the one input is a history text by the rules of the reading, and the other is no witness text: the line is a
 -- `refused_file_line` of the first line of the other that is refused, with its first cause (`witness_text`)
 -- Source: profile.
-abbrev pub IsRefusedWitness : List ℕ → List ℕ → List ℕ → Type 0
-IsRefusedWitness history witness line =
-    (fault : TextFault) × (line ≡ refused_file_line (codes "witness") fault.line fault.cause) × IsSomeHistory history × (witness_text witness ≡ Err fault)
+abbrev pub IsRefusedWitness : Reading → List ℕ → List ℕ → List ℕ → Type 0
+IsRefusedWitness reading history witness line =
+    (fault : TextFault) × (line ≡ refused_file_line (codes "witness") fault.line fault.cause) × OfText reading history (λ _. witness_text witness ≡ Err fault)
 
 -- The line that `verify` writes, and what it says of both inputs. Yes: it is a `verified_line` of counts (`IsVerified`).
 -- No: it is the `broken_line` of a fault (`IsBroken`), or the `broken_get_line` of evidence (`IsBrokenAtGet`); a witness
@@ -322,7 +317,7 @@ IsVerifyAnswer reading history witness No line =
     ((fault : VerifyFault) × (line ≡ broken_line fault) × OfText reading history (λ read. IsBroken reading read witness fault))
     ⊎ ((e : Evidence) × (line ≡ broken_get_line e) × OfText reading history (λ read. IsBrokenAtGet reading read witness e))
 IsVerifyAnswer reading history witness Refuted line = ⊥
-IsVerifyAnswer reading history witness Refused line = IsRefusedHistory reading history line ⊎ IsRefusedWitness history witness line
+IsVerifyAnswer reading history witness Refused line = IsRefusedHistory reading history line ⊎ IsRefusedWitness reading history witness line
 
 -- if the bytes of the history are known and refused, nothing is taken of the witness
 -- Source: profile.

@@ -124,7 +124,7 @@ fn read_in_text<'h>(
     get: Option<UnexplainedGet>,
 ) -> Unexplained<'h> {
     let call = back.number(judged.call);
-    let told = Unexplained {
+    let in_text = Unexplained {
         history: part,
         whole: back.text,
         conflicts: judged.conflicts,
@@ -135,13 +135,13 @@ fn read_in_text<'h>(
         call,
         before_shown: judged.before_shown,
     };
-    match (told.evidence, get) {
+    match (in_text.evidence, get) {
         (None, Some(get)) => Unexplained {
             evidence: Some(get.evidence),
             certainty: Certainty::Evident,
-            ..told
+            ..in_text
         },
-        _ => told,
+        _ => in_text,
     }
 }
 
@@ -165,7 +165,7 @@ fn account_of<'h>(
         writes: reading.writes,
     };
     Account {
-        told: read_in_text(&judged, &back, part, found.get),
+        in_text: read_in_text(&judged, &back, part, found.get),
         judged,
         reading,
     }

@@ -9,7 +9,7 @@ use readings::{Gets, Reading, WayBack};
 #[derive(Clone, Copy)]
 pub struct Account<'h> {
     /// By the calls and events of the text, of which the explanation speaks.
-    pub told: Unexplained<'h>,
+    pub in_text: Unexplained<'h>,
     /// By those of the history that was judged, in which reasons and orders are searched.
     pub judged: Unexplained<'h>,
     /// As what the text was read.
@@ -33,7 +33,7 @@ impl<'h> Account<'h> {
     /// Returns whether the evidence is of a get that is judged by itself.
     pub fn is_of_get_alone(&self) -> bool {
         let is_of_get = matches!(
-            self.told.evidence,
+            self.in_text.evidence,
             Some(Refuted::NoWriter(_) | Refuted::StaleGet(..) | Refuted::MissedWrite(..))
         );
         self.reading.gets == Gets::Any && is_of_get
@@ -41,11 +41,11 @@ impl<'h> Account<'h> {
 
     /// Returns the way back to the history that the reasons are about.
     pub fn back(&self) -> WayBack<'h> {
-        self.back_to(self.told.history)
+        self.back_to(self.in_text.history)
     }
 
     /// Returns the way back to the whole text.
     pub fn whole_back(&self) -> WayBack<'h> {
-        self.back_to(self.told.whole)
+        self.back_to(self.in_text.whole)
     }
 }

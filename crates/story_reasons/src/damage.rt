@@ -87,7 +87,7 @@ impl Damage {
         doc: usize,
     ) -> Result<bool, NoMemory>
         requires judged { doc < length (documents_of account.now.judged.whole.now) }
-        requires told { doc < length (documents_of account.now.told.whole.now) }
+        requires told { doc < length (documents_of account.now.in_text.whole.now) }
     {
         let judged = &account.judged;
         let conflicts = judged.conflicts;
@@ -99,7 +99,7 @@ impl Damage {
         match found_reason(alloc, judged.evidence, &records, conflicts, writes)? {
             Some(reason) => {
                 let reason = reason.in_text(&account.whole_back());
-                self.add(alloc, &reason, &account.told.whole.records(doc)?)?;
+                self.add(alloc, &reason, &account.in_text.whole.records(doc)?)?;
                 Ok(true)
             }
             None => Ok(false),
@@ -115,7 +115,7 @@ impl Damage {
         subject: &Subject<'_>,
     ) -> Result<(), NoMemory>
         requires judged { doc < length (documents_of account.now.judged.whole.now) }
-        requires told { doc < length (documents_of account.now.told.whole.now) }
+        requires told { doc < length (documents_of account.now.in_text.whole.now) }
     {
         match subject.whole_reason() {
             Some(reason) => self.add(alloc, reason, &subject.records),
@@ -140,7 +140,7 @@ fn subject_of<'s, 'h>(subjects: &'s [Subject<'h>], id: &DocId) -> Option<&'s Sub
 /// Returns how much of the whole history is broken. It takes at most one walk over each document.
 pub fn damage_of(alloc: Global, subjects: &Subjects<'_>) -> Result<Damage, NoMemory> {
     let account = &subjects.account;
-    let whole = account.told.whole;
+    let whole = account.in_text.whole;
     // What is judged has the documents of the text.
     let documents = whole.docs().min(account.judged.whole.docs());
     let mut damage = Damage {

@@ -4,7 +4,7 @@
 //!
 //! ```text
 //! let subjects = Subjects::of(alloc, &account)?;
-//! let diagnosis = diagnosis_of(&account.told, &subjects.list); // the anomaly that the calls show
+//! let diagnosis = diagnosis_of(&account.in_text, &subjects.list); // the anomaly that the calls show
 //! ```
 #![tactic(auto)]
 

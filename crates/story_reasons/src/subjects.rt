@@ -144,7 +144,7 @@ fn reason_in_text(
 impl<'h> Subjects<'h> {
     /// Returns those of what is explained.
     pub fn of(alloc: Global, account: &Account<'h>) -> Result<Subjects<'h>, NoMemory> {
-        let unexplained = &account.told;
+        let unexplained = &account.in_text;
         let history = unexplained.history;
         let is_evident = is_evident_early(unexplained);
         let mut list = Vec::new(alloc);

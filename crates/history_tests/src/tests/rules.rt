@@ -1,7 +1,7 @@
 //! Texts that are read by rules.
 
 use api_lines::{ReadFault, TextCause, TextFault};
-use history::{Failed, HashKeys, TextRules, Writes, read_text, read_text_from};
+use history::{Failed, TextRules, Writes, read_text};
 use std::alloc::Global;
 
 // Three calls whose outcome is lost. Of the first it is said that nothing was performed; of the second the
@@ -87,17 +87,4 @@ fn trusted_fields_of_another_kind_are_shape(rt: HostRuntime) {
     assert!(rt; before_no_call == Some(true));
     let no_call = is_refused(alloc, TRUSTED, "\"n\":1,\"void\":true", TextCause::NoCall);
     assert!(rt; no_call == Some(true));
-}
-
-#[test]
-fn a_text_is_read_from_a_reader_by_rules(rt: HostRuntime) {
-    let alloc = rt.alloc();
-    let mut input = SAID.as_bytes();
-    match read_text_from(alloc, HashKeys::fixed(), TRUSTED, &mut input) {
-        Ok(Ok(read)) => {
-            assert!(rt; read.history.len() == 8);
-            assert!(rt; read.voids.contains(4) && !read.voids.contains(3));
-        }
-        Ok(Err(_)) | Err(_) => assert!(rt; false),
-    }
 }
