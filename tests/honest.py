@@ -28,13 +28,14 @@ from running import asked
 
 class Set(NamedTuple):
     """Recordings that are drawn alike: how many, on how many shards, how a conflict is read, how many calls each has (a
-    few hundred if none are given), and how many of them get `no`."""
+    few hundred if none are given), how many of them get `no`, and whether their clients only compare and set."""
 
     count: int
     shards: int
     reading: str
     calls: Optional[int]
     no: int
+    swaps: bool = False
 
 
 # How many get `no` is no promise: these numbers are what the program of this checkout answers. A change of the search
@@ -47,6 +48,9 @@ SETS = {
     "maybe, three shards": Set(600, 3, "maybe", None, 0),
     "long": Set(20, 1, "plain", 50_000, 0),
     "longer": Set(6, 1, "plain", 200_000, 0),
+    "compare-and-set": Set(160, 1, "maybe", 800, 0, swaps=True),
+    "compare-and-set, long": Set(20, 1, "maybe", 4_000, 0, swaps=True),
+    "compare-and-set, longer": Set(2, 1, "maybe", 50_000, 0, swaps=True),
 }
 
 
@@ -73,6 +77,12 @@ class Index:
         return self.term[shard], self.seq[shard] - 1
 
     def perform(self, call):
+        """Performs a call, gives the line of its reply, and notes the pair that the document has then."""
+        reply = self.reply_to(call)
+        call.pair = self.last[call.doc] if self.value[call.doc] is not None else None
+        return reply
+
+    def reply_to(self, call):
         """Performs a call, and gives the line of its reply."""
         n, doc, kind, name = call.number, call.doc, call.kind, f"d{call.doc}"
         is_there = self.value[doc] is not None
@@ -96,6 +106,8 @@ class Call:
         self.number, self.doc, self.shard = number, doc, shard
         self.kind, self.value, self.condition = kind, value, condition
         self.reply, self.is_lost, self.is_late, self.has_effect = None, False, False, True
+        # The pair of the document after it, if it is there.
+        self.pair = None
 
     def line(self):
         more = "" if self.value is None else ',"k":%d' % self.value
@@ -181,6 +193,22 @@ class Recording:
                 yield self.end(client, call)
 
 
+class Swaps(Recording):
+    """Clients that only compare and set: each writes a document under the pair that it knows, and takes the one that a
+    conflict names. A write that was performed may be answered with a conflict, which names its own pair."""
+
+    def operation(self, client, doc):
+        pair = self.known[client][doc]
+        if pair is None:
+            return "create", self.begun + 1, None
+        return ("delete", None, pair) if self.draw.random() < 0.05 else ("index", self.begun + 1, pair)
+
+    def end(self, client, call):
+        line = super().end(client, call)
+        self.known[client][call.doc] = None if call.is_lost else call.pair
+        return line
+
+
 def short_settings(seed, kind):
     """The settings of a short recording: of one document or more, but of several if there are several shards."""
     draw = random.Random(f"settings {seed} {kind.reading}")
@@ -204,10 +232,10 @@ def long_settings(seed, calls):
     return settings | {"calls": calls, "loss": draw.choice([0.01, 0.05])}
 
 
-def judged_with(program, settings, reading, seed):
-    """Judges a recording with these settings: `yes` if that is the answer and its own witness verifies it, or else
-    `no`."""
-    history = "".join(Recording(seed, **settings).lines())
+def judged_with(program, clients, settings, reading, seed):
+    """Judges a recording of such clients with these settings: `yes` if that is the answer and its own witness verifies
+    it, or else `no`."""
+    history = "".join(clients(seed, **settings).lines())
     status, order = asked(program, "witness", history, conflicts=reading)
     if status == 1 and order.startswith("no "):
         return "no"
@@ -217,10 +245,20 @@ def judged_with(program, settings, reading, seed):
     return "yes"
 
 
+def swap_settings(seed, calls):
+    """The settings of a recording whose clients only compare and set. About 1 to 20 % of its conflicts are answers to
+    writes that were performed."""
+    draw = random.Random(f"settings {seed} swaps")
+    settings = {"docs": draw.choice([1, 4, 16]), "clients": draw.choice([4, 8, 16]), "loss": draw.choice([0, 0, 0.02])}
+    return settings | {"calls": calls, "maybe": draw.choice([0.01, 0.05, 0.2])}
+
+
 def judged(program, kind, seed):
     """Judges a recording of a set."""
+    if kind.swaps:
+        return judged_with(program, Swaps, swap_settings(seed, kind.calls), kind.reading, seed)
     settings = long_settings(seed, kind.calls) if kind.calls else short_settings(seed, kind)
-    return judged_with(program, settings, kind.reading, seed)
+    return judged_with(program, Recording, settings, kind.reading, seed)
 
 
 class HonestRecordings(ProgramTest):
@@ -253,7 +291,7 @@ class LongRecordings(ProgramTest):
 
     def test_recordings(self):
         settings = list(map(self.settings, range(self.seeds)))
-        rows = [(f"{seed}: {it}", self.program, it, "plain", seed) for seed, it in enumerate(settings)]
+        rows = [(f"{seed}: {it}", self.program, Recording, it, "plain", seed) for seed, it in enumerate(settings)]
         answers = self.run_subtests(judged_with, rows, ProcessPoolExecutor, workers=self.workers)
         unfound = [name for (name, *_), it in zip(rows, answers) if it == "no"]
         print(f"{len(unfound)} of {self.seeds} got no", *unfound, sep="\n")

@@ -6,26 +6,32 @@ use crate::walk::{ForwardWalk, Placed};
 use completing::{Count, No, Timed, earlier, leaves_it, needs};
 use doc_register::Conflicts;
 use events::Rec;
+use version_pair::Pair;
 
 /// What is tried next at a point of the search.
 #[derive(Clone, Copy)]
 pub enum NextTry {
     /// The writes that the next known pair can have, after those up to this index if one is given.
     Next(Option<usize>),
+    /// The conflicts that were placed as refused, as writes that have the next known pair. The ones placed last,
+    /// this many, are left out.
+    NextTurned(usize),
     /// An unanswered delete.
     Delete,
     /// An unanswered write of the document.
     Index,
     /// The conflicts, as performed writes, after those with a reply up to this index if one is given.
     Conflict(Option<usize>),
-    /// The conflicts that were placed as refused, as performed writes. The ones placed last, this many, are
-    /// left out.
+    /// The conflicts that were placed as refused, as inserted writes. The ones placed last, this many, are left
+    /// out.
     Turned(usize),
     /// An unanswered write of the document that takes a pair which a delete asks for, from an index among the
     /// named pairs on.
     Asked(usize),
     /// The same with a conflict as the performed write.
     AskedRefused(usize),
+    /// The same with a conflict that was placed as refused.
+    AskedTurned(usize),
     /// Nothing.
     Done,
 }
@@ -41,13 +47,15 @@ impl NextTry {
     // What is tried when this has no write left.
     fn otherwise(self) -> NextTry {
         match self {
-            NextTry::Next(_) => NextTry::Delete,
+            NextTry::Next(_) => NextTry::NextTurned(0),
+            NextTry::NextTurned(_) => NextTry::Delete,
             NextTry::Delete => NextTry::Index,
             NextTry::Index => NextTry::Conflict(None),
             NextTry::Conflict(_) => NextTry::Turned(0),
             NextTry::Turned(_) => NextTry::Asked(0),
             NextTry::Asked(_) => NextTry::AskedRefused(0),
-            NextTry::AskedRefused(_) | NextTry::Done => NextTry::Done,
+            NextTry::AskedRefused(_) => NextTry::AskedTurned(0),
+            NextTry::AskedTurned(_) | NextTry::Done => NextTry::Done,
         }
     }
 }
@@ -272,14 +280,27 @@ fn next_known<D: Count>(walk: &mut ForwardWalk<'_, D>, last: Option<usize>) -> O
     }
     let entry = walk.next_known()?;
     let tried = next_writer_of(walk, entry, last)?;
-    let write = Placed::Known {
-        rec: tried.rec,
-        pair: entry.pair,
-    };
     Some(Attempt {
-        write,
+        write: Placed::Known(tried.rec, entry.pair),
         next: NextTry::Next(Some(tried.last)),
     })
+}
+
+// The last conflict that was placed as refused and can be the write with the next known pair here, if no reply
+// tells which write has it, without the last `from` placed records; and what is tried after it.
+fn next_turned<D: Count>(walk: &ForwardWalk<'_, D>, from: usize) -> Option<Attempt<D>> {
+    let entry = walk.next_known()?;
+    let may_be_refused = walk.conflicts == Conflicts::Maybe && entry.writer.is_none();
+    if !may_be_refused || !walk.state.has_inserted() {
+        return None;
+    }
+    for back in from..MOST_WAITING {
+        if let Some(write) = walk.turned_to_known(back, entry) {
+            let next = NextTry::NextTurned(back + 1);
+            return Some(Attempt { write, next });
+        }
+    }
+    None
 }
 
 // The write that has the next known pair, or is the only one of its number.
@@ -292,20 +313,13 @@ fn next_writer<D: Count>(walk: &ForwardWalk<'_, D>) -> Option<Rec> {
     Some(walk.records.of(rec))
 }
 
-// The last conflict that was placed as refused and can be a write here, without the last `from` placed
+// The last conflict that was placed as refused and can be an inserted write here, without the last `from` placed
 // records; and what is tried after it.
 fn last_turned<D: Count>(walk: &ForwardWalk<'_, D>, from: usize) -> Option<Attempt<D>> {
-    let order = walk.order.as_slice();
-    for back in from..MOST_WAITING.min(order.len()) {
-        let placed = order[order.len() - 1 - back];
-        match placed {
-            Placed::Read(rec) if walk.may_turn(rec) => {
-                return Some(Attempt {
-                    write: Placed::Turned(rec, None),
-                    next: NextTry::Turned(back + 1),
-                });
-            }
-            _ => {}
+    for back in from..MOST_WAITING {
+        if let Some(write) = walk.turned_over(back) {
+            let next = NextTry::Turned(back + 1);
+            return Some(Attempt { write, next });
         }
     }
     None
@@ -432,14 +446,19 @@ fn has_delete<D: Count>(walk: &mut ForwardWalk<'_, D>, at: usize) -> bool {
     walk.is_left(WaitKind::LostDeleteOnNamed(at)) || has_refused_delete(walk, at)
 }
 
+// Whether an inserted write of the document with an inserted delete after it is of any use.
+fn serves_both<D: Count>(walk: &mut ForwardWalk<'_, D>) -> bool {
+    if walk.state.document.is_live() {
+        serves(walk, true)
+    } else {
+        matches!(next_writer(walk).and_then(needs), Some(false))
+    }
+}
+
 // The named pair that a write of the document may take so that a delete which asks for it can be performed
 // after it, from an index among these pairs on.
 fn pair_for_delete<D: Count>(walk: &mut ForwardWalk<'_, D>, from: usize) -> Option<NamedPair> {
-    let is_asked = walk.state.document.is_live()
-        && may_insert(walk)
-        && walk.state.budget_left() > 1
-        && serves(walk, true);
-    if !is_asked {
+    if !may_insert(walk) || walk.state.budget_left() < 2 || !serves_both(walk) {
         return None;
     }
     let mut place = from;
@@ -453,27 +472,46 @@ fn pair_for_delete<D: Count>(walk: &mut ForwardWalk<'_, D>, from: usize) -> Opti
     None
 }
 
-// An unanswered write of the document, or one whose reply is a conflict, that takes a pair which a delete
-// asks for; and what is tried after it.
-fn asked<D: Count>(
-    walk: &mut ForwardWalk<'_, D>,
-    from: usize,
-    is_refused: bool,
-) -> Option<Attempt<D>> {
-    let named = pair_for_delete(walk, from)?;
-    let rec = if is_refused {
-        conflict(walk, None, false)?.rec
-    } else {
-        lost_index(walk)?
-    };
-    Some(Attempt {
-        write: Placed::Inserted(rec, Some(named.pair)),
-        next: if is_refused {
-            NextTry::AskedRefused(named.next)
-        } else {
-            NextTry::Asked(named.next)
-        },
-    })
+// A conflict that was placed as refused, as a write of the document that takes the pair.
+fn turned_to<D: Count>(walk: &ForwardWalk<'_, D>, pair: Pair) -> Option<Placed<D>> {
+    if walk.conflicts == Conflicts::Plain {
+        return None;
+    }
+    for back in 0..MOST_WAITING {
+        if let Some(write) = walk.turned_to_write(back, pair) {
+            return Some(write);
+        }
+    }
+    None
+}
+
+// A write of the document that takes a pair which a delete asks for: an unanswered one, one whose reply is a
+// conflict, or such a one that was placed as refused; and what is tried after it.
+fn asked<D: Count>(walk: &mut ForwardWalk<'_, D>, turn: NextTry) -> Option<Attempt<D>> {
+    match turn {
+        NextTry::Asked(from) => {
+            let named = pair_for_delete(walk, from)?;
+            Some(Attempt {
+                write: Placed::Inserted(lost_index(walk)?, Some(named.pair)),
+                next: NextTry::Asked(named.next),
+            })
+        }
+        NextTry::AskedRefused(from) => {
+            let named = pair_for_delete(walk, from)?;
+            Some(Attempt {
+                write: Placed::Inserted(conflict(walk, None, false)?.rec, Some(named.pair)),
+                next: NextTry::AskedRefused(named.next),
+            })
+        }
+        NextTry::AskedTurned(from) => {
+            let named = pair_for_delete(walk, from)?;
+            Some(Attempt {
+                write: turned_to(walk, named.pair)?,
+                next: NextTry::AskedTurned(named.next),
+            })
+        }
+        _ => None,
+    }
 }
 
 // The record as an inserted write, whose pair isn't chosen yet; and what is tried after it.
@@ -488,6 +526,7 @@ fn inserted<D: Count>(rec: No<D>, next: NextTry) -> Attempt<D> {
 fn attempt_at<D: Count>(walk: &mut ForwardWalk<'_, D>, turn: NextTry) -> Option<Attempt<D>> {
     match turn {
         NextTry::Next(last) => next_known(walk, last),
+        NextTry::NextTurned(from) => next_turned(walk, from),
         NextTry::Delete => Some(inserted(write_to_insert(walk, true)?, turn.otherwise())),
         NextTry::Index => Some(inserted(write_to_insert(walk, false)?, turn.otherwise())),
         NextTry::Conflict(last) => match conflict(walk, last, true) {
@@ -497,8 +536,7 @@ fn attempt_at<D: Count>(walk: &mut ForwardWalk<'_, D>, turn: NextTry) -> Option<
             _ => None,
         },
         NextTry::Turned(from) => turn_back(walk, from),
-        NextTry::Asked(from) => asked(walk, from, false),
-        NextTry::AskedRefused(from) => asked(walk, from, true),
+        NextTry::Asked(_) | NextTry::AskedRefused(_) | NextTry::AskedTurned(_) => asked(walk, turn),
         NextTry::Done => None,
     }
 }
@@ -508,7 +546,7 @@ pub fn next_write<D: Count>(
     walk: &mut ForwardWalk<'_, D>,
     turn: &mut NextTry,
 ) -> Option<Placed<D>> {
-    for _ in 0..7 {
+    for _ in 0..9 {
         if let Some(made) = attempt_at(walk, *turn) {
             *turn = made.next;
             return Some(made.write);

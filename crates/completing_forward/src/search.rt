@@ -154,12 +154,20 @@ fn chain_of<D: Count>(alloc: Global, walk: &ForwardWalk<'_, D>) -> Result<Chain<
     for placed in &walk.order {
         match *placed {
             Placed::Read(rec) => stretches.set(rec, Some(writes.len())),
-            Placed::Known { rec, pair } => writes.push(ChainWrite {
+            Placed::Freed(rec) => stretches.set(rec, None),
+            Placed::Known(rec, pair) => writes.push(ChainWrite {
                 pair: Some(pair),
                 rec,
             })?,
             Placed::Inserted(rec, pair) => writes.push(ChainWrite { pair, rec })?,
-            Placed::Turned(rec, pair) => {
+            Placed::KnownTurned(rec, pair) => {
+                stretches.set(rec, None);
+                writes.push(ChainWrite {
+                    pair: Some(pair),
+                    rec,
+                })?;
+            }
+            Placed::InsertedTurned(rec, pair) => {
                 stretches.set(rec, None);
                 writes.push(ChainWrite { pair, rec })?;
             }

@@ -46,7 +46,7 @@ pub struct SearchState {
     pub replies: usize,
     /// How many of the conflicts on pairs, by call, were met.
     pub conflicts_met: usize,
-    /// The latest call of what is placed.
+    /// The latest call of the writes that are placed.
     pub latest: usize,
     /// A number derived from the records that are placed, whatever their order.
     pub mark: u64,

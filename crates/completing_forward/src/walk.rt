@@ -15,17 +15,23 @@ use std::alloc::Global;
 use version_pair::{NoMemory, Pair};
 use write_chain::{AnsweredRec, answers_of};
 
+mod turning;
+
 /// A record that was placed.
 #[derive_where(Clone, Copy)]
 pub enum Placed<D: Count> {
     /// It is a read, or is refused.
     Read(No<D>),
     /// A write with the next known pair.
-    Known { rec: No<D>, pair: Pair },
+    Known(No<D>, Pair),
+    /// Such a write, which was placed before as one that is refused.
+    KnownTurned(No<D>, Pair),
     /// A write with an invented pair: the pair, if it is between two pairs of one term.
     Inserted(No<D>, Option<Pair>),
     /// Such a write, which was placed before as one that is refused.
-    Turned(No<D>, Option<Pair>),
+    InsertedTurned(No<D>, Option<Pair>),
+    /// It was placed as a read, or as refused, and is left again.
+    Freed(No<D>),
 }
 
 impl<D: Count> Placed<D> {
@@ -33,10 +39,17 @@ impl<D: Count> Placed<D> {
     pub fn rec(self) -> No<D> {
         match self {
             Placed::Read(rec)
-            | Placed::Known { rec, .. }
+            | Placed::Freed(rec)
+            | Placed::Known(rec, _)
+            | Placed::KnownTurned(rec, _)
             | Placed::Inserted(rec, _)
-            | Placed::Turned(rec, _) => rec,
+            | Placed::InsertedTurned(rec, _) => rec,
         }
+    }
+
+    // Whether it is a write that was placed before as one that is refused.
+    fn is_turned(self) -> bool {
+        matches!(self, Placed::KnownTurned(..) | Placed::InsertedTurned(..))
     }
 }
 
@@ -224,8 +237,6 @@ impl<D: Count> ForwardWalk<'_, D> {
         self.set(placed, true);
         self.steps_left = self.steps_left.saturating_sub(1);
         self.state.mark ^= self.mark(placed);
-        let call_at = self.records.of(placed.rec()).call_at;
-        self.state.latest = self.state.latest.max(call_at);
         Ok(())
     }
 
@@ -233,19 +244,25 @@ impl<D: Count> ForwardWalk<'_, D> {
     // adds nothing: it is of no use after that pair.
     fn mark(&self, placed: Placed<D>) -> u64 {
         let rec = placed.rec();
-        match (placed, self.kinds.of(rec)) {
-            (Placed::Turned(..), _) => mix(mark_of(rec.index())),
-            (_, Some(kind)) if kind.is_lost_on_pair() => 0,
+        if placed.is_turned() {
+            return mix(mark_of(rec.index()));
+        }
+        match self.kinds.of(rec) {
+            Some(kind) if kind.is_lost_on_pair() => 0,
             _ => mark_of(rec.index()),
         }
     }
 
     // Records that a record is placed, or is not.
     fn set(&mut self, placed: Placed<D>, is_placed: bool) {
-        if let Placed::Turned(rec, _) = placed {
-            self.turned.set(rec, is_placed);
-        } else {
-            self.placed.set(placed.rec(), is_placed);
+        match placed {
+            Placed::KnownTurned(rec, _) | Placed::InsertedTurned(rec, _) => {
+                self.turned.set(rec, is_placed);
+            }
+            Placed::Read(rec) | Placed::Known(rec, _) | Placed::Inserted(rec, _) => {
+                self.placed.set(rec, is_placed);
+            }
+            Placed::Freed(rec) => self.placed.set(rec, !is_placed),
         }
     }
 
@@ -339,8 +356,12 @@ impl<D: Count> ForwardWalk<'_, D> {
     fn after(&self, write: Placed<D>) -> Document {
         let leaves_it = leaves_it(self.records.of(write.rec()).op);
         match write {
-            Placed::Known { .. } if leaves_it => Document::Known(self.state.passed),
-            Placed::Inserted(_, pair) | Placed::Turned(_, pair) if leaves_it => self.invented(pair),
+            Placed::Known(..) | Placed::KnownTurned(..) if leaves_it => {
+                Document::Known(self.state.passed)
+            }
+            Placed::Inserted(_, pair) | Placed::InsertedTurned(_, pair) if leaves_it => {
+                self.invented(pair)
+            }
             _ => Document::Absent,
         }
     }
@@ -349,7 +370,9 @@ impl<D: Count> ForwardWalk<'_, D> {
     fn with_pair(&self, write: Placed<D>) -> Placed<D> {
         match write {
             Placed::Inserted(rec, None) => Placed::Inserted(rec, self.pair_to_insert()),
-            Placed::Turned(rec, None) => Placed::Turned(rec, self.pair_to_insert()),
+            Placed::InsertedTurned(rec, None) => {
+                Placed::InsertedTurned(rec, self.pair_to_insert())
+            }
             other => other,
         }
     }
@@ -366,18 +389,24 @@ impl<D: Count> ForwardWalk<'_, D> {
     pub fn perform(&mut self, write: Placed<D>) -> Result<(), NoMemory> {
         let before = self.state.document;
         let write = self.with_pair(write);
+        let reads = self.order.len();
         self.place(write)?;
         self.state.document = self.after(write);
+        let call_at = self.records.of(write.rec()).call_at;
+        self.state.latest = self.state.latest.max(call_at);
+        if write.is_turned() {
+            self.free_reads(write.rec(), reads)?;
+        }
         match write {
-            Placed::Known { pair, .. } => self.pass_known(pair),
-            Placed::Inserted(_, pair) | Placed::Turned(_, pair) => {
+            Placed::Known(_, pair) | Placed::KnownTurned(_, pair) => self.pass_known(pair),
+            Placed::Inserted(_, pair) | Placed::InsertedTurned(_, pair) => {
                 // (Budgets are below the greatest number of all.)
                 self.state.inserted = self.state.inserted.saturating_add(1);
                 if pair.is_some() {
                     self.state.last = pair;
                 }
             }
-            Placed::Read(_) => {}
+            Placed::Read(_) | Placed::Freed(_) => {}
         }
         self.pass_replies();
         match before {
@@ -411,25 +440,6 @@ impl<D: Count> ForwardWalk<'_, D> {
         if let Some(k) = number_of(found, self.conflicts) {
             self.numbers.put_back(k, left);
         }
-    }
-
-    /// Returns whether the record is a conflict that was placed as one that is refused, and can be here as
-    /// well.
-    pub fn can_stand(&self, rec: No<D>) -> bool {
-        match self.records.of(rec).heard {
-            Some(heard) => !self.turned.of(rec) && self.state.latest < heard.0,
-            None => false,
-        }
-    }
-
-    /// Returns whether it is one that can be performed on the document here: a create if the document is
-    /// absent, a delete under the condition of the pair that it has.
-    pub fn may_turn(&self, rec: No<D>) -> bool {
-        let is_performed = match self.state.document {
-            Document::Absent => self.kinds.of(rec) == Some(WaitKind::CreateConflict),
-            _ => self.is_on_present(rec) && self.is_delete(rec),
-        };
-        is_performed && self.can_stand(rec)
     }
 
     /// Returns whether the record is a delete.
