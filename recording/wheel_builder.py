@@ -27,17 +27,23 @@ Tag: py3-none-any
 """
 
 
+def is_command(file: pathlib.Path) -> bool:
+    """Whether a file of the package has a command: a module with a function `main`, or a package that runs as a module."""
+    has_main = re.search(r"^def main\(", file.read_text(encoding="utf-8"), re.MULTILINE) is not None
+    return file.name == "__main__.py" or has_main and file.parent.name == PACKAGE
+
+
 def entry_points(files: Sequence[pathlib.Path]) -> str:
-    """The commands that pip installs: each module with a function `main`, such as `stand_in`, as `casbench-stand-in`."""
-    modules = [it.stem for it in files if re.search(r"^def main\(", it.read_text(encoding="utf-8"), re.MULTILINE)]
-    rows = (f"casbench-{it.replace('_', '-')} = {PACKAGE}.{it}:main\n" for it in modules)
+    """The commands that pip installs: each module or package that has one, such as `stand_in`, as `casbench-stand-in`."""
+    names = sorted(it.parent.name if it.name == "__main__.py" else it.stem for it in files if is_command(it))
+    rows = (f"casbench-{it.replace('_', '-')} = {PACKAGE}.{it}:main\n" for it in names)
     return "[console_scripts]\n" + "".join(rows)
 
 
 def contents() -> Dict[str, bytes]:
     """What the wheel has, but for its list of it."""
-    files = sorted(it for it in (HERE / PACKAGE).iterdir() if it.suffix == ".py" or it.name == "py.typed")
-    found = {f"{PACKAGE}/{it.name}": it.read_bytes() for it in files}
+    files = sorted(it for it in (HERE / PACKAGE).rglob("*") if it.suffix == ".py" or it.name == "py.typed")
+    found = {it.relative_to(HERE).as_posix(): it.read_bytes() for it in files}
     metadata = {"METADATA": METADATA, "WHEEL": WHEEL, "entry_points.txt": entry_points(files)}
     return {**found, **{f"{FOLDER}/{name}": text.encode() for name, text in metadata.items()}}
 

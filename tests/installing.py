@@ -294,8 +294,9 @@ class Commands(unittest.TestCase):
         return ended([folder / command, *arguments], cwd=folder, env=environment(PYTHONPATH=str(self.installed)))
 
     def test_each_command_starts(self):
-        sources = sorted((PACKAGE / "casbench_recording").glob("*.py"))
-        modules = [it.stem for it in sources if '\nif __name__ == "__main__":\n' in it.read_text(encoding="utf-8")]
+        sources = sorted((PACKAGE / "casbench_recording").rglob("*.py"))
+        runs = [it for it in sources if '\nif __name__ == "__main__":\n' in it.read_text(encoding="utf-8")]
+        modules = [it.parent.name if it.name == "__main__.py" else it.stem for it in runs]
         self.assertLessEqual({"proxy", "record", "shrink", "split", "stand_in", "watch", "witness"}, set(modules))
         names = {f"casbench-{it.replace('_', '-')}": it for it in modules}
         self.assertEqual({it.name for it in (self.installed / "bin").iterdir()}, set(names))

@@ -40,6 +40,12 @@ def judged(program, file, *options):
     return ran.stdout.strip()
 
 
+def empty_stats(index):
+    """What a cluster tells of the shards of an index to which nothing was written."""
+    shards = {str(it.number): [{"seq_no": {"max_seq_no": -1}}] for it in index.shards}
+    return {"indices": {index.name: {"shards": shards}}}
+
+
 def environment(**more):
     """The environment of the package's commands, without a word of who asks but those given."""
     kept = {key: it for key, it in os.environ.items() if not key.startswith("OPENSEARCH_")}

@@ -1,0 +1,91 @@
+"""The answers of the document API, each a status and a body."""
+
+from typing import Any, Dict, Mapping, Optional, Tuple
+
+from .indexes import ShardId
+from .shard_copy import Entry
+
+Answer = Tuple[int, Any]
+"""A status and a body."""
+
+Words = Mapping[str, Any]
+"""The words of a request's query, or those of one document's place in a request of several."""
+
+
+def error(status: int, kind: str, reason: str, **more: Any) -> Answer:
+    """The answer that reports an error."""
+    cause = {"type": kind, "reason": reason, **more}
+    return status, {"error": {"root_cause": [cause], **cause}, "status": status}
+
+
+def no_index(name: str) -> Answer:
+    """The answer if an index isn't there."""
+    return error(404, "index_not_found_exception", f"no such index [{name}]", index=name)
+
+
+def no_document(document: str) -> Answer:
+    """The answer to an update of a document that isn't there."""
+    return error(404, "document_missing_exception", f"[{document}]: document missing")
+
+
+def rejected(what: str) -> Answer:
+    """The answer of a node that has too much to do. Nothing was performed by the attempt that it answers."""
+    return error(429, "opensearch_rejected_execution_exception", f"rejected execution of {what}")
+
+
+def pair_of(words: Words) -> Optional[Tuple[int, int]]:
+    """The condition that words name, if any: a term and a number."""
+    number, term = words.get("if_seq_no"), words.get("if_primary_term")
+    return None if number is None or term is None else (int(term), int(number))
+
+
+def shown(index: str, document: str, entry: Optional[Entry], words: Words) -> Answer:
+    """The answer to a get that shows this change of the document, or that the document isn't there."""
+    if entry is None or entry.source is None:
+        return 404, {"_index": index, "_id": document, "found": False}
+    body = {"_index": index, "_id": document, "_version": entry.changes, "_seq_no": entry.number}
+    return 200, {**body, "_primary_term": entry.term, "found": True, **shown_source(entry.source, words)}
+
+
+def shown_source(source: Dict[str, Any], words: Words) -> Dict[str, Any]:
+    """The member of an answer that shows the source, or what the words leave of it."""
+    wanted = words.get("_source", "true")
+    if wanted in ("false", False) or "stored_fields" in words:
+        return {}
+    fields = words.get("_source_includes", "" if wanted in ("true", True) else wanted)
+    fields = fields if isinstance(fields, list) else fields.split(",") if fields else list(source)
+    left_out = words.get("_source_excludes", "").split(",")
+    return {"_source": {key: it for key, it in source.items() if key in fields and key not in left_out}}
+
+
+def performed(shard: ShardId, entry: Entry, was_there: bool, shards: Dict[str, int]) -> Answer:
+    """The answer to a write that was performed."""
+    if entry.source is None:
+        status, result = (200, "deleted") if was_there else (404, "not_found")
+    else:
+        status, result = (200, "updated") if was_there else (201, "created")
+    body = {"_index": shard.index, "_id": entry.document, "_version": entry.changes, "result": result, "_shards": shards}
+    return status, {**body, "_seq_no": entry.number, "_primary_term": entry.term}
+
+
+def unchanged(shard: ShardId, entry: Entry) -> Answer:
+    """The answer to an update that would change nothing."""
+    body = {"_index": shard.index, "_id": entry.document, "_version": entry.changes, "result": "noop"}
+    shards = {"total": 0, "successful": 0, "failed": 0}
+    return 200, {**body, "_shards": shards, "_seq_no": entry.number, "_primary_term": entry.term}
+
+
+def conflict(shard: ShardId, document: str, last: Optional[Entry], words: Words) -> Answer:
+    """The answer to a write that met a conflict; its reason names the pair that the primary has."""
+    condition = pair_of(words)
+    if condition is not None:
+        why = f"required seqNo [{condition[1]}], primary term [{condition[0]}]. "
+        is_there = last is not None and last.source is not None
+        found = f"current document has seqNo [{last.number}] and primary term [{last.term}]" if last else ""
+        why += found if is_there else "but no document was found"
+    elif "version" in words:
+        why = f"current version [{last.changes if last else -1}] is higher or equal to the one provided [{words['version']}]"
+    else:
+        why = f"document already exists (current version [{last.changes if last else 1}])"
+    reason = f"[{document}]: version conflict, {why}"
+    return error(409, "version_conflict_engine_exception", reason, index=shard.index, shard=str(shard.number))

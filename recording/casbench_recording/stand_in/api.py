@@ -1,0 +1,199 @@
+"""The requests that the stand-in knows, and what answers each."""
+
+from typing import Any, Awaitable, Callable, Dict, List, Optional, Set, Tuple
+
+from .answers import Answer, error, no_index
+from .asked import Asked
+from .coordinator import Coordinator, new_id
+from .indexes import ShardId
+from .several import bulk, change_all, multiple_get
+
+Action = Callable[[Coordinator, Asked], Awaitable[Answer]]
+"""What answers a request."""
+
+VERSION = {
+    "distribution": "opensearch",
+    "number": "2.19.1",
+    "build_type": "tar",
+    "build_snapshot": False,
+    "lucene_version": "9.12.1",
+    "minimum_wire_compatibility_version": "7.10.0",
+    "minimum_index_compatibility_version": "7.0.0",
+}
+"""What OpenSearch 2.x says of its version."""
+
+OF_ELASTICSEARCH = {"number": "7.17.0", "build_flavor": "default", "lucene_version": "8.11.1"}
+"""What Elasticsearch says, whose clients look for it."""
+
+
+async def answer_to(coordinator: Coordinator, asked: Asked) -> Answer:
+    """Does what is asked for, and returns the answer."""
+    try:
+        action = action_for(asked)
+        if action is not None:
+            return await action(coordinator, asked)
+    except (KeyError, TypeError, ValueError, AttributeError) as fault:
+        return error(400, "parse_exception", str(fault))
+    return error(400, "illegal_argument_exception", f"the stand-in has no {asked.method} /{'/'.join(asked.path)}")
+
+
+def action_for(asked: Asked) -> Optional[Action]:
+    """What answers this request, if it is known."""
+    for methods, path, action in ROUTES:
+        if asked.method in methods and len(path) == len(asked.path):
+            if all(it in ("*", word) for it, word in zip(path, asked.path)):
+                return action
+    return None
+
+
+def write_by(kind: str) -> Action:
+    """What answers a write of one document."""
+
+    async def write(coordinator: Coordinator, asked: Asked) -> Answer:
+        name, document = asked.path[0], asked.path[2] if len(asked.path) > 2 else new_id()
+        source = None if kind == "delete" else asked.value
+        is_create = kind == "create" or asked.words.get("op_type") == "create"
+        return await coordinator.act(name, "create" if is_create else kind, document, source, asked.words)
+
+    return write
+
+
+async def get(coordinator: Coordinator, asked: Asked) -> Answer:
+    """Answers a get of one document."""
+    return await coordinator.get(asked.path[0], asked.path[2], asked.words)
+
+
+async def write_several(coordinator: Coordinator, asked: Asked) -> Answer:
+    """Answers a bulk request."""
+    return await bulk(coordinator, asked.path[0] if len(asked.path) > 1 else "", asked.body, asked.words)
+
+
+async def get_several(coordinator: Coordinator, asked: Asked) -> Answer:
+    """Answers a get of several documents."""
+    return await multiple_get(coordinator, asked.path[0] if len(asked.path) > 1 else "", asked.value, asked.words)
+
+
+async def change_by_query(coordinator: Coordinator, asked: Asked) -> Answer:
+    """Answers a change of all documents."""
+    return await change_all(coordinator, asked.path[0], "delete" if asked.path[1] == "_delete_by_query" else "index")
+
+
+async def refresh(coordinator: Coordinator, asked: Asked) -> Answer:
+    """Answers a refresh: there is nothing to do."""
+    return 200, {"_shards": {"failed": 0}}
+
+
+async def make(coordinator: Coordinator, asked: Asked) -> Answer:
+    """Answers a request to make an index."""
+    name, node = asked.path[0], coordinator.node
+    if not await node.ask_manager(node.cluster.manager.create, name, asked.value):
+        return error(400, "resource_already_exists_exception", f"index [{name}] already exists", index=name)
+    return 200, {"acknowledged": True, "shards_acknowledged": True, "index": name}
+
+
+async def remove(coordinator: Coordinator, asked: Asked) -> Answer:
+    """Answers a request to delete an index."""
+    node = coordinator.node
+    if not await node.ask_manager(node.cluster.manager.remove, asked.path[0]):
+        return no_index(asked.path[0])
+    return 200, {"acknowledged": True}
+
+
+async def describe(coordinator: Coordinator, asked: Asked) -> Answer:
+    """Answers what an index is."""
+    index = coordinator.index(asked.path[0])
+    return no_index(asked.path[0]) if index is None else (200, {index.name: index.described()})
+
+
+async def describe_settings(coordinator: Coordinator, asked: Asked) -> Answer:
+    """Answers what the settings of an index are."""
+    index = coordinator.index(asked.path[0])
+    return no_index(asked.path[0]) if index is None else (200, {index.name: {"settings": {"index": index.settings}}})
+
+
+async def report_stats(coordinator: Coordinator, asked: Asked) -> Answer:
+    """Answers how far the copies of each shard have come."""
+    index = coordinator.index(asked.path[0])
+    if index is None:
+        return no_index(asked.path[0])
+    return 200, {"indices": {index.name: {"shards": {str(it.number): copies_of(coordinator, it) for it in index.shards}}}}
+
+
+def copies_of(coordinator: Coordinator, shard: ShardId) -> List[Dict[str, Any]]:
+    """What the active copies of a shard say of themselves: the greatest number that each has, -1 if it has none."""
+    cluster, routing = coordinator.node.cluster, coordinator.node.state.routings[shard]
+    rows = []
+    for number in sorted(routing.active):
+        copy = cluster.nodes[number].copies.get(shard)
+        if copy is not None and cluster.nodes[number].is_reachable:
+            numbers = {"max_seq_no": copy.top, "local_checkpoint": copy.checkpoint, "global_checkpoint": copy.known}
+            place = {"state": "STARTED", "primary": number == routing.primary, "node": cluster.nodes[number].name}
+            rows.append({"seq_no": numbers, "routing": place})
+    return rows
+
+
+async def report_state(coordinator: Coordinator, asked: Asked) -> Answer:
+    """Answers what the cluster keeps of an index."""
+    state = coordinator.node.state
+    index = state.indexes[asked.path[3]]
+    terms = {str(it.number): state.routings[it].term for it in index.shards}
+    return 200, {"metadata": {"indices": {index.name: {"routing_num_shards": index.routing_shards, "primary_terms": terms}}}}
+
+
+async def report_shard(coordinator: Coordinator, asked: Asked) -> Answer:
+    """Answers which shard a routing is on, and where its active copies are."""
+    state, nodes = coordinator.node.state, coordinator.node.cluster.nodes
+    index = state.indexes[asked.path[0]]
+    shard = index.shards[index.shard_number(asked.words["routing"])]
+    routing = state.routings[shard]
+    numbers = sorted(routing.active, key=lambda it: it != routing.primary)
+    place = {"index": index.name, "shard": shard.number}
+    return 200, {"shards": [[{**place, "primary": it == routing.primary, "node": nodes[it].name} for it in numbers]]}
+
+
+async def report_health(coordinator: Coordinator, asked: Asked) -> Answer:
+    """Answers how many copies are active."""
+    state, manager = coordinator.node.state, coordinator.node.cluster.manager
+    wanted = sum(len(it.shards) * (it.replicas + 1) for it in state.indexes.values())
+    active = sum(len(it.active) for it in state.routings.values())
+    has_primaries = all(it.primary is not None for it in state.routings.values())
+    status = "red" if not has_primaries else "green" if active == wanted else "yellow"
+    counts = {"number_of_nodes": len(manager.members), "active_shards": active, "unassigned_shards": wanted - active}
+    return 200, {"cluster_name": "stand-in", "status": status, "timed_out": False, **counts}
+
+
+async def greet(coordinator: Coordinator, asked: Asked) -> Answer:
+    """Answers who this is, as OpenSearch does."""
+    names = {"name": coordinator.node.name, "cluster_name": "stand-in", "cluster_uuid": "c3RhbmQtaW4tb2YtYS1jbA"}
+    return 200, {**names, "version": VERSION, "tagline": "The OpenSearch Project: https://opensearch.org/"}
+
+
+async def greet_as_elasticsearch(coordinator: Coordinator, asked: Asked) -> Answer:
+    """Answers who this is, as Elasticsearch does."""
+    return 200, {"name": "stand-in", "version": OF_ELASTICSEARCH, "tagline": "You Know, for Search"}
+
+
+ROUTES: List[Tuple[Set[str], Tuple[str, ...], Action]] = [
+    ({"GET", "HEAD"}, ("*", "_doc", "*"), get),
+    ({"PUT", "POST"}, ("*", "_doc", "*"), write_by("index")),
+    ({"PUT", "POST"}, ("*", "_create", "*"), write_by("create")),
+    ({"DELETE"}, ("*", "_doc", "*"), write_by("delete")),
+    ({"POST"}, ("*", "_doc"), write_by("index")),
+    ({"POST"}, ("*", "_update", "*"), write_by("update")),
+    ({"POST", "PUT"}, ("_bulk",), write_several),
+    ({"POST", "PUT"}, ("*", "_bulk"), write_several),
+    ({"GET", "POST"}, ("_mget",), get_several),
+    ({"GET", "POST"}, ("*", "_mget"), get_several),
+    ({"POST"}, ("*", "_update_by_query"), change_by_query),
+    ({"POST"}, ("*", "_delete_by_query"), change_by_query),
+    ({"GET", "POST"}, ("*", "_refresh"), refresh),
+    ({"GET", "HEAD"}, ("",), greet),
+    ({"GET", "HEAD"}, ("*",), describe),
+    ({"PUT"}, ("*",), make),
+    ({"DELETE"}, ("*",), remove),
+    ({"GET"}, ("*", "_settings"), describe_settings),
+    ({"GET"}, ("*", "_stats"), report_stats),
+    ({"GET"}, ("_cluster", "health"), report_health),
+    ({"GET"}, ("_cluster", "state", "metadata", "*"), report_state),
+    ({"GET"}, ("*", "_search_shards"), report_shard),
+]

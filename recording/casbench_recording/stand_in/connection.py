@@ -1,0 +1,129 @@
+"""A client's connection: its requests, answered one after the other."""
+
+import asyncio
+import gzip
+import json
+import random
+import re
+from http import HTTPStatus
+from typing import TYPE_CHECKING, Any, Optional, cast
+
+from ..http1 import BadMessage, Body, Request, request_of, split_head
+from .answers import error
+from .asked import Asked, read_request
+
+if TYPE_CHECKING:
+    from .server import Server
+
+PHRASES = {it.value: it.phrase for it in HTTPStatus}
+
+PACKED = re.compile(rb"\r\naccept-encoding:[^\r]*gzip", re.IGNORECASE)
+"""What asks for a packed answer."""
+
+
+class ServerConnection(asyncio.BufferedProtocol):
+    """Answers the requests of one connection."""
+
+    transport: asyncio.Transport
+
+    def __init__(self, server: "Server") -> None:
+        self.server = server
+        self.data = b""
+        self.head = b""
+        self.request: Optional[Request] = None
+        self.body: Optional[Body] = None
+        self.is_busy = False
+
+    def connection_made(self, transport: asyncio.BaseTransport) -> None:
+        """Keeps what the answers are written to."""
+        self.transport = cast(asyncio.Transport, transport)
+        self.server.connections.add(self)
+
+    def connection_lost(self, fault: Optional[Exception]) -> None:
+        """Answers nothing more."""
+        self.server.connections.discard(self)
+
+    def get_buffer(self, sizehint: int) -> memoryview:
+        """Where what comes is put. It is one place for all connections, since it is taken from there at once."""
+        return self.server.buffer
+
+    def buffer_updated(self, nbytes: int) -> None:
+        """Takes what came."""
+        self.data += self.server.buffer[:nbytes]
+        self.go_on()
+
+    def go_on(self) -> None:
+        """Answers the next request, if it is whole. One that is none ends the connection."""
+        try:
+            if not self.is_busy and not self.transport.is_closing() and self.has_request():
+                self.is_busy = True
+                self.server.node.run(self.answer(cast(Request, self.request), cast(Body, self.body)))
+        except BadMessage:
+            self.transport.close()
+
+    def has_request(self) -> bool:
+        """Whether a request is whole; it is read as far as it came."""
+        if self.body is None:
+            self.head, self.data = split_head(self.data)
+            if not self.head:
+                return False
+            self.request = request_of(self.head)
+            self.body = self.request.body()
+            if self.request.fields.expects:
+                self.transport.write(b"HTTP/1.1 100 Continue\r\n\r\n")
+        self.data = self.data[self.body.take(self.data) :]
+        return self.body.is_done
+
+    async def answer(self, request: Request, body: Body) -> None:
+        """Answers a request, and goes on with the next one."""
+        await self.pass_time()
+        if self.is_known():
+            await self.answer_to(read_request(request, body.content()))
+        else:
+            self.send(*error(401, "security_exception", "it is not known who asks"))
+        self.is_busy, self.body = False, None
+        self.go_on()
+
+    async def answer_to(self, asked: Asked) -> None:
+        """Answers a request, unless a fault strikes it."""
+        faults = self.server.faults
+        if not asked.is_of_documents:
+            self.send(*await self.server.act(asked))
+            return
+        if faults.strikes("drop-before"):
+            self.transport.close()
+            return
+        status, body = await self.server.act(asked)
+        await self.pass_time()
+        if faults.strikes("drop-after"):
+            self.transport.close()
+        elif faults.strikes("garbled"):
+            self.send_bytes(502, "text/html", b"<html>no upstream</html>")
+        else:
+            if faults.strikes("late"):
+                await asyncio.sleep(self.server.setting.late)
+            self.send(status, body)
+
+    async def pass_time(self) -> None:
+        """Waits as long as a step takes, and while the node is stopped."""
+        if self.server.setting.delay:
+            await asyncio.sleep(random.random() * self.server.setting.delay)
+        await self.server.node.awake()
+
+    def is_known(self) -> bool:
+        """Whether the request has the header that the environment asks for."""
+        wanted = self.server.wanted
+        return wanted is None or re.search(wanted, self.head) is not None
+
+    def send(self, status: int, body: Any) -> None:
+        """Sends an answer."""
+        self.send_bytes(status, "application/json; charset=UTF-8", json.dumps(body, separators=(",", ":")).encode())
+
+    def send_bytes(self, status: int, kind: str, body: bytes) -> None:
+        """Sends the bytes of an answer in one piece; packed, if that is asked for."""
+        fields = [f"HTTP/1.1 {status} {PHRASES[status]}", f"content-type: {kind}", *self.server.fields]
+        if PACKED.search(self.head):
+            body = gzip.compress(body, 1)
+            fields.append("content-encoding: gzip")
+        head = "\r\n".join([*fields, f"content-length: {len(body)}", "", ""]).encode()
+        self.transport.write(head if cast(Request, self.request).method == "HEAD" else head + body)

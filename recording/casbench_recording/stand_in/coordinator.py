@@ -1,0 +1,201 @@
+"""What a node does for a client: it finds the shard of each document, asks copies for it, and has the primary write it."""
+
+import base64
+import itertools
+import re
+import time
+from typing import TYPE_CHECKING, Any, Awaitable, Callable, Dict, List, Optional, Sequence, TypeVar
+
+from .answers import Answer, Words, error, no_document, no_index, shown, unchanged
+from .indexes import Index, ShardId
+from .manager import Routing
+from .network import Disconnected, NoCopy, NotPrimary
+from .primary import Write
+from .shard_copy import Entry
+from .updates import prepared
+
+if TYPE_CHECKING:
+    from .node import Node
+
+SECONDS = {"ms": 0.001, "s": 1.0, "m": 60.0, "h": 3600.0}
+"""How long the units of a time are."""
+
+Returned = TypeVar("Returned")
+
+IDS = itertools.count()
+
+
+class Unavailable(Exception):
+    """The primary of a shard, or each copy, couldn't be reached in time; whether anything was performed isn't known."""
+
+    def __init__(self, answer: Answer) -> None:
+        super().__init__(answer)
+        self.answer = answer
+
+
+class Coordinator:
+    """The coordinating part of a node."""
+
+    def __init__(self, node: "Node") -> None:
+        self.node = node
+        self._turn = 0
+
+    def index(self, name: str) -> Optional[Index]:
+        """The index of this name, or the one with this alias."""
+        indexes = self.node.state.indexes
+        return indexes.get(name) or next((it for it in indexes.values() if name in it.aliases), None)
+
+    async def index_to_write(self, name: str) -> Index:
+        """The same of a write that makes an index: it is made if it isn't there."""
+        index = self.index(name)
+        while index is None:
+            await self.node.ask_manager(self.node.cluster.manager.create, name, {})
+            index = self.index(name)
+        return index
+
+    # Gets
+
+    async def get(self, name: str, document: str, words: Words) -> Answer:
+        """Answers a get."""
+        return (await self.get_all(name, [document], [words]))[0]
+
+    async def get_all(self, name: str, documents: Sequence[str], words: Sequence[Words]) -> List[Answer]:
+        """Answers gets of documents of an index, of which those of one shard are answered by one copy."""
+        index = self.index(name)
+        if index is None:
+            return [no_index(name) for _ in documents]
+        shards = [index.shard(*it) for it in zip(documents, words)]
+        answers: Dict[int, Answer] = {}
+        for shard in dict.fromkeys(shards):
+            places = [at for at, it in enumerate(shards) if it == shard]
+            try:
+                entries = await self._entries(shard, [documents[at] for at in places], words[places[0]].get("preference"))
+            except Unavailable as fault:
+                answers.update((at, fault.answer) for at in places)
+            else:
+                answers.update((at, shown(index.name, documents[at], it, words[at])) for at, it in zip(places, entries))
+        return [answers[at] for at, _ in enumerate(documents)]
+
+    async def _entries(self, shard: ShardId, documents: Sequence[str], preference: Optional[str]) -> List[Optional[Entry]]:
+        """The last changes of documents of a shard, as some copy has them: if one is gone the next is asked. Raises Unavailable."""
+        refused = self.node.cluster.overload.of_get()
+        if refused is not None:
+            raise Unavailable(refused)
+        for number in self._copies(self.node.state.routings.get(shard), preference):
+            try:
+                return await self.node.ask(number, type(self.node).get, shard, documents)
+            except (Disconnected, NoCopy):
+                continue
+        raise Unavailable(error(503, "no_shard_available_action_exception", f"No shard available for [get [{shard.index}]]"))
+
+    def _copies(self, routing: Optional[Routing], preference: Optional[str]) -> List[int]:
+        """The nodes whose copies are asked, in their order: all that are active, by turns, unless the request prefers some."""
+        if routing is None:
+            return []
+        self._turn += 1
+        numbers = sorted(routing.active)
+        turned = [numbers[(self._turn + at) % len(numbers)] for at, _ in enumerate(numbers)]
+        if preference is None:
+            return turned
+        if preference in ("_primary", "_replica"):
+            return [it for it in turned if (it == routing.primary) == (preference == "_primary")]
+        replicas = [it for it in turned if it != routing.primary]
+        firsts = {"_primary_first": [routing.primary], "_local": [self.node.number], "_replica_first": replicas}
+        if preference.startswith("_") and preference not in firsts:
+            raise ValueError(f"no Preference for [{preference}]")
+        first = [it for it in firsts.get(preference, numbers) if it in routing.active]
+        return first + [it for it in turned if it not in first]
+
+    # Writes
+
+    async def write(self, shard: ShardId, writes: Sequence[Write], words: Words) -> List[Answer]:
+        """Has the primary perform writes, in their order."""
+        overload = self.node.cluster.overload
+        refused = overload.of_waiting()
+        answers = await self._performed(shard, writes, words) if refused is None or overload.performs_it() else []
+        return answers if refused is None else [refused for _ in writes]
+
+    async def _performed(self, shard: ShardId, writes: Sequence[Write], words: Words) -> List[Answer]:
+        """The answers to writes by the primary, or that it couldn't be reached."""
+        try:
+            return await self._rerouted(shard, seconds_of(words.get("timeout", "1m")), type(self.node).perform, writes)
+        except Unavailable as fault:
+            return [fault.answer for _ in writes]
+
+    async def _rerouted(self, shard: ShardId, seconds: float, act: Callable[..., Awaitable[Returned]], *arguments: Any) -> Returned:
+        """Has the node with a shard's primary do something: again with each new cluster state if the connection to it was lost, or if it
+        is no primary, and a last time when these seconds are over. Raises Unavailable."""
+        node, end = self.node, time.monotonic() + seconds
+        while True:
+            state, is_last = node.state, time.monotonic() >= end
+            routing = state.routings.get(shard)
+            try:
+                if node.is_alone or routing is None or routing.primary is None:
+                    raise NotPrimary("primary shard is not active")
+                return await node.ask(routing.primary, act, shard, routing.term, *arguments)
+            except (Disconnected, NotPrimary) as fault:
+                if is_last:
+                    raise Unavailable(self._unavailable(shard, fault, seconds)) from fault
+            left = end - time.monotonic()
+            await node.cluster.changes.until(lambda: node.state.version > state.version and not node.is_alone, left)
+            await node.awake()
+
+    def _unavailable(self, shard: ShardId, fault: Exception, seconds: float) -> Answer:
+        """The answer if the primary couldn't be reached in time."""
+        if self.node.is_alone:
+            return error(503, "cluster_block_exception", "blocked by: [SERVICE_UNAVAILABLE/2/no cluster-manager];")
+        if isinstance(fault, Disconnected):
+            return error(500, "node_disconnected_exception", f"{fault}: disconnected")
+        return error(503, "unavailable_shards_exception", f"[{shard.index}][{shard.number}] {fault} Timeout: [{seconds:g}s]")
+
+    async def update(self, shard: ShardId, write: Write) -> Answer:
+        """Answers an update: the primary's node reads the document and writes it, all of which is tried again as a write is."""
+        try:
+            return await self._rerouted(shard, seconds_of(write.words.get("timeout", "1m")), type(self.node).update, write)
+        except Unavailable as fault:
+            return fault.answer
+
+    async def write_update(self, shard: ShardId, write: Write, last: Optional[Entry]) -> Answer:
+        """Writes what an update makes of a document, under the pair that was read unless it names one. A conflict is tried again as often
+        as it asks for that."""
+        change = prepared(write.source or {}, last)
+        if change.is_missing:
+            return no_document(write.document)
+        if change.is_noop and last is not None:
+            return unchanged(shard, last)
+        refused = self.node.cluster.overload.of_coordinating()
+        if refused is not None:
+            return refused
+        words = dict(write.words)
+        if last is not None and last.source is not None and "if_seq_no" not in words:
+            words.update(if_seq_no=last.number, if_primary_term=last.term)
+        (answer,) = await self._performed(shard, [Write(change.kind, write.document, change.source, words)], words)
+        tries = int(write.words.get("retry_on_conflict", 0))
+        if answer[0] == 409 and tries:
+            return await self.update(shard, write._replace(words={**write.words, "retry_on_conflict": tries - 1}))
+        return answer
+
+    async def act(self, name: str, kind: str, document: str, source: Any, words: Words) -> Answer:
+        """Answers a write of one document."""
+        index = await self.index_to_write(name) if kind in ("index", "create") else self.index(name)
+        if index is None:
+            return no_index(name)
+        shard, write = index.shard(document, words), Write(kind, document, source, words)
+        if kind == "update":
+            # (it may be refused where it writes, when it was performed once before)
+            return await self.update(shard, write)
+        refused = self.node.cluster.overload.of_coordinating()
+        return refused if refused is not None else (await self.write(shard, [write], words))[0]
+
+
+def new_id() -> str:
+    """The id of a document that is given none: 20 letters."""
+    return base64.urlsafe_b64encode(next(IDS).to_bytes(15, "big")).decode()
+
+
+def seconds_of(text: str) -> float:
+    """The seconds that a time such as 30s or 1m is."""
+    found = re.fullmatch(r"([0-9]+)(ms|s|m|h)", str(text))
+    if found is None:
+        raise ValueError(f"failed to parse [{text}] as a time")
+    return int(found[1]) * SECONDS[found[2]]

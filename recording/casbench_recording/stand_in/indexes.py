@@ -1,0 +1,41 @@
+"""An index: its shards and settings, and what requests about it are answered with."""
+
+from typing import Any, Dict, Mapping, NamedTuple
+
+from ..routing import shard_of
+
+
+class ShardId(NamedTuple):
+    """A shard of an index. An index that is made again under its name has other shards."""
+
+    index: str
+    generation: int
+    number: int
+
+
+class Index:
+    """An index, and the settings that it was made with. Those that were not named are the defaults of the cluster."""
+
+    def __init__(self, name: str, asked: Mapping[str, Any], generation: int = 0, shards: int = 1, replicas: int = 0) -> None:
+        settings = asked.get("settings", {})
+        settings = {**settings, **settings.get("index", {})}
+        count, replicas = int(settings.get("number_of_shards", shards)), int(settings.get("number_of_replicas", replicas))
+        self.name = name
+        self.settings = {key: str(it) for key, it in settings.items() if not isinstance(it, dict)}
+        self.settings.update({"number_of_shards": str(count), "number_of_replicas": str(replicas)})
+        self.mappings, self.aliases = asked.get("mappings", {}), asked.get("aliases", {})
+        self.replicas = replicas
+        self.routing_shards = count << max(1, 10 - (count - 1).bit_length())
+        self.shards = [ShardId(name, generation, number) for number in range(count)]
+
+    def shard_number(self, routing: str) -> int:
+        """The number of the shard that a routing is on."""
+        return shard_of(routing, len(self.shards), self.routing_shards)
+
+    def shard(self, document: str, words: Mapping[str, Any]) -> ShardId:
+        """The shard that a document is on, or the one that the words name by a routing."""
+        return self.shards[self.shard_number(str(words.get("routing", document)))]
+
+    def described(self) -> Dict[str, Any]:
+        """What a request for the index is answered with."""
+        return {"aliases": self.aliases, "mappings": self.mappings, "settings": {"index": self.settings}}

@@ -1,0 +1,108 @@
+"""What a node serves to clients, and its address."""
+
+import asyncio
+import base64
+import os
+import re
+import socket
+import ssl
+import sys
+from typing import Mapping, NamedTuple, Optional, Set
+
+from .answers import Answer
+from .api import answer_to, greet_as_elasticsearch
+from .asked import Asked
+from .cluster import Cluster
+from .connection import ServerConnection
+from .coordinator import Coordinator
+from .faults import Faults
+from .node import Node
+
+BACKLOG = 256
+"""How many connections may wait."""
+
+
+class ServerSetting(NamedTuple):
+    """How requests are answered: how many seconds at most pass before and after each step, how late an answer is that is late, the
+    product that answers name, and the file of the certificate for https, if there is one."""
+
+    delay: float = 0.0
+    late: float = 2.0
+    product: Optional[str] = None
+    certificate: Optional[str] = None
+
+
+class Server:
+    """Serves a node. With a coordinator of its own it serves a second node beside it."""
+
+    def __init__(self, cluster: Cluster, number: int, setting: ServerSetting, port: int, second: Optional[Coordinator] = None) -> None:
+        self.cluster = cluster
+        self.number = number
+        self.setting = setting
+        self.faults: Faults = cluster.faults
+        self.wanted = wanted_header(os.environ)
+        self.connections: Set[ServerConnection] = set()
+        # (a view, since asyncio writes encrypted messages into slices of it, and those of the bytes themselves are copies)
+        self.buffer = memoryview(bytearray(65_536))
+        self.fields = [f"X-Elastic-Product: {setting.product}"] if setting.product else []
+        self._port = port
+        self._second = second
+        self._place: Optional[socket.socket] = None
+        self._listener: Optional[asyncio.AbstractServer] = None
+        self._trust: Optional[ssl.SSLContext] = None
+        if setting.certificate is not None:
+            self._trust = ssl.SSLContext(ssl.PROTOCOL_TLS_SERVER)
+            self._trust.load_cert_chain(setting.certificate)
+
+    @property
+    def node(self) -> Node:
+        """The node as it runs now."""
+        return self.cluster.nodes[self.number]
+
+    async def act(self, asked: Asked) -> Answer:
+        """Does what is asked for, and returns the answer."""
+        coordinator = self._second or self.node.coordinator
+        if asked.path == [""] and self.setting.product:
+            return await greet_as_elasticsearch(coordinator, asked)
+        return await answer_to(coordinator, asked)
+
+    async def listen(self) -> None:
+        """Listens, at the first time as well as after the node was started again."""
+        if self._place is None:
+            # (the port stays taken while nobody listens, and clients are refused)
+            self._place = bound(self._port)
+            self._port = self._place.getsockname()[1]
+        how = {"ssl": self._trust, "backlog": BACKLOG}
+        self._listener = await asyncio.get_running_loop().create_server(lambda: ServerConnection(self), sock=bound(self._port), **how)
+
+    def report(self) -> None:
+        """Reports its address."""
+        scheme = "http" if self._trust is None else "https"
+        print(f"{scheme}://127.0.0.1:{self._port}", file=sys.stderr, flush=True)
+
+    def stop(self) -> None:
+        """Listens no more, and resets its connections."""
+        if self._listener is not None:
+            self._listener.close()
+        for it in list(self.connections):
+            it.transport.abort()
+
+
+def bound(port: int) -> socket.socket:
+    """A socket at this port of the loopback, or at one that is free."""
+    place = socket.socket()
+    place.setsockopt(socket.SOL_SOCKET, socket.SO_REUSEADDR, 1)
+    place.bind(("127.0.0.1", port))
+    return place
+
+
+def wanted_header(environment: Mapping[str, str]) -> Optional[bytes]:
+    """The pattern of the header that a request has to have; None if none is asked for."""
+    if "OPENSEARCH_USER" in environment:
+        words = f"{environment['OPENSEARCH_USER']}:{environment.get('OPENSEARCH_PASSWORD', '')}"
+        name, value = "Authorization", "Basic " + base64.b64encode(words.encode()).decode()
+    elif "OPENSEARCH_HEADER" in environment:
+        name, _, value = environment["OPENSEARCH_HEADER"].partition(":")
+    else:
+        return None
+    return rf"\r\n(?i:{re.escape(name.strip())}): {re.escape(value.strip())}\r\n".encode()
