@@ -123,6 +123,8 @@ class Cluster:
     def own(self, head):
         """The answer to what the proxy asks itself, if it is that."""
         target = head.split(b" ")[1]
+        if not self.is_there and head.startswith((b"GET /_cluster/state/metadata/", b"GET /carts/_search_shards?")):
+            return answer_of(404, {})
         if head.startswith(b"GET ") and target in (b"/carts", b"/carts/_stats?level=shards"):
             if not self.is_there:
                 return answer_of(404, {"error": {"type": "index_not_found_exception"}})
@@ -238,7 +240,11 @@ class AttackTest(FolderTest):
 
     def proxy(self, url, *words, **more):
         """A proxy that records the index carts of the cluster, and runs until the test ends."""
-        words = ["--listen", "127.0.0.1:0", "--cluster", url, "--index", "carts", *words, self.file]
+        return self.recorder(url, self.file, *words, **more)
+
+    def recorder(self, url, file, *words, **more):
+        """The same, into this file."""
+        words = ["--listen", "127.0.0.1:0", "--cluster", url, "--index", "carts", *words, file]
         proxy = Started("proxy", *words, **more)
         self.addCleanup(proxy.__exit__)
         return proxy

@@ -441,7 +441,7 @@ class Citations:
         """Holds what a document cites."""
         for number, line in lines_of(page):
             for word in (it.rstrip(":,") for text in quoted(line) for it in text.split()):
-                word = re.sub(r"^(casbench_recording)\.(\w+)$", r"recording/\1/\2.py", word)  # (a module)
+                word = module_file(word)
                 is_path = word.startswith(tuple(f"{it}/" for it in (".", *FOLDERS))) or word.endswith(ENDINGS)
                 if is_path and re.fullmatch(r"(\./)?(\w|\*|\.ci)[\w.*-]*(/[\w.*-]+)*/?", word):
                     self.claims.hold(self.is_file(word), page, number, f"there is no file {word}")
@@ -454,6 +454,13 @@ class Citations:
                     self.claims.hold(self.is_behind(path, name), page, number, f"{path} has no clause {name}")
             for link in re.findall(r"\]\(([^):]+)\)", line) + re.findall(r"^\[[^\]]+\]: ([^:\s]+)$", line):
                 self.claims.hold(self.is_linked(page, link), page, number, f"there is nothing behind the link {link}")
+
+
+def module_file(word):
+    """The file of a module or a package of the recorders, if the word names one; any other word as it is."""
+    name = re.fullmatch(r"casbench_recording\.(\w+)", word)
+    path = f"recording/casbench_recording/{name[1]}" if name else ""
+    return word if not name else f"{path}/__init__.py" if (TOP / path).is_dir() else f"{path}.py"
 
 
 class Claims(ProgramTest):

@@ -246,8 +246,8 @@ def judged_with(program, clients, settings, reading, seed):
 
 
 def swap_settings(seed, calls):
-    """The settings of a recording whose clients only compare and set. About 1 to 20 % of its conflicts are answers to
-    writes that were performed."""
+    """The settings of a recording whose clients only compare and set. 1, 5 or 20 % of the writes that were performed are
+    answered with a conflict."""
     draw = random.Random(f"settings {seed} swaps")
     settings = {"docs": draw.choice([1, 4, 16]), "clients": draw.choice([4, 8, 16]), "loss": draw.choice([0, 0, 0.02])}
     return settings | {"calls": calls, "maybe": draw.choice([0.01, 0.05, 0.2])}

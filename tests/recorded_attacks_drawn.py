@@ -16,15 +16,15 @@ import sys
 import threading
 import time
 from concurrent.futures import ThreadPoolExecutor
-from types import SimpleNamespace
 
 from attacks import AttackTest, Client, Cluster, answer_of, descriptors, end_of, megabytes, request_of, threads
 from program_test import run_tests
 
 from casbench_recording.http1 import BadMessage
 from casbench_recording.http1 import request_of as head_of
-from casbench_recording.stand_in import Server, read_request
-from casbench_recording.stand_in_store import Faults, Store
+from casbench_recording.stand_in.api import answer_to
+from casbench_recording.stand_in.asked import read_request
+from casbench_recording.stand_in.cluster import Cluster as StandIn
 
 CLIENTS = 8
 DOCUMENTS = 6
@@ -57,14 +57,22 @@ def mutated(draw, data):
     return data
 
 
+def at_once(work):
+    """What work returns that waits for nothing, as that of a cluster of one node."""
+    try:
+        work.send(None)
+    except StopIteration as end:
+        return end.value
+    raise AssertionError("it waits for something")
+
+
 class Honest(Cluster):
     """A cluster that does each request in one step, and answers right."""
 
     def __init__(self):
         super().__init__(self.act)
-        self.server = Server(SimpleNamespace(product=None, certificate=None), Store(Faults("none", 1)), 0)
-        self.server.store.make("carts", {})
-        self.lock = threading.Lock()
+        self.stand_in, self.lock = StandIn(), threading.Lock()
+        at_once(self.stand_in.manager.create("carts", {}))
 
     def act(self, head, body):
         """The answer to a request."""
@@ -73,7 +81,7 @@ class Honest(Cluster):
         except BadMessage:
             return None
         with self.lock:
-            status, given = self.server.act(read_request(request, body))
+            status, given = at_once(answer_to(self.stand_in.nodes[0].coordinator, read_request(request, body)))
         answer = answer_of(status, json.dumps(given).encode())
         return answer.partition(b"\r\n\r\n")[0] + b"\r\n\r\n" if request.method == "HEAD" else answer
 

@@ -32,6 +32,7 @@ from casbench_recording.history import History, counting_members
 from casbench_recording.inspection import Shape
 from casbench_recording.judge import Judge
 from casbench_recording.loop import Loop, Stream
+from casbench_recording.paths import AS_SENT
 from casbench_recording.routes import Names
 from casbench_recording.tls import TlsStream
 from casbench_recording.unjudged import Unjudged
@@ -338,7 +339,8 @@ class Pieces(FolderTest):
         proxy = SimpleNamespace(loop=SimpleNamespace(soon=soon.append, now=0.0), judge=judge, clients=set())
         proxy.finding, proxy.has_room, proxy.hold = None, lambda: True, lambda count: None
         proxy.connect = lambda node, made: SimpleNamespace(cancel=lambda: None)
-        client = ClientSide(proxy, SimpleNamespace(cluster=SimpleNamespace(trust=None)), SimpleNamespace(getpeername=lambda: ("127.0.0.1", 40000)))
+        node = SimpleNamespace(name="", cluster=SimpleNamespace(trust=None), paths=AS_SENT, sent_host=b"")
+        client = ClientSide(proxy, node, SimpleNamespace(getpeername=lambda: ("127.0.0.1", 40000)))
         client.received(b"")
         client.connection_made(None)
         soon.pop()()

@@ -21,7 +21,7 @@ from unittest import mock
 from program_test import run_tests
 from recordings import FolderTest, Started, environment
 
-from casbench_recording.disturb import Disturbance, PlanError, fault_of, plan_of
+from casbench_recording.disturb import Disturbance, Disturber, PlanError, fault_of, plan_of
 from casbench_recording.history import CallError, History
 
 # A proxy that takes half a second to report an address.
@@ -189,6 +189,22 @@ class Plans(unittest.TestCase):
 
 class Disturbed(LinesTest):
     """Recordings with a plan."""
+
+    def test_an_end_that_fails_is_tried_again_when_the_recording_ends(self):
+        log, block = os.path.join(self.folder, "log"), os.path.join(self.folder, "block")
+        end = f"echo end >>{log}; test ! -e {block}"
+        plan = plan_of(f"after 0 s: touch {block}; echo begin >>{log}\nfor 0.1 s: {end}\nevery 0.2 s\n")
+        notes, reports = [], []
+        with Disturber(plan, notes.append, reports.append) as disturber:
+            self.wait_for(log, len("begin\nend\n"))
+            time.sleep(1)
+            os.remove(block)
+        with open(log, encoding="ascii") as file:
+            # (it isn't begun once more before it was ended)
+            self.assertEqual(file.read().split(), ["begin", "end", "end"])
+        self.assertEqual(reports, [f"the disturbance failed: {end}: status 1"])
+        self.assertTrue(disturber.has_failed)
+        self.assertEqual(notes[1:], [f"failed: {end}", f"ended: {end}"])
 
     def record(self, plan, *words):
         """Records a load with a plan; the process, which runs on."""

@@ -170,7 +170,7 @@ class FirstWrites(AttackTest):
             cluster.performed("old")
             return answer_of(201, cluster.performed("d"))
 
-        with Made(answer) as cluster, self.proxy(cluster.url) as proxy, self.client(proxy) as client:
+        with Made(answer) as cluster, self.proxy(cluster.url, "--settle", "0") as proxy, self.client(proxy) as client:
             self.assertEqual(client.ask(request_of("PUT", "/carts/_doc/d", b"{}"))[0], 201)
             shown = answer_of(200, {"_index": "carts", "_id": "old", "_seq_no": 0, "_primary_term": 1, "found": True, "_source": {}})
             cluster.answer = lambda head, body: shown

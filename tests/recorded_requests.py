@@ -7,13 +7,14 @@ PROGRAM is the built casbench; if it isn't named, the one that ./casbench would 
 passed and failed.
 """
 
+import hashlib
 import json
 import os
 import sys
 from unittest import mock
 
 from program_test import run_tests
-from recordings import FolderTest
+from recordings import FolderTest, empty_stats
 
 from casbench_recording.answering import Answering
 from casbench_recording.asking import Asking
@@ -22,11 +23,12 @@ from casbench_recording.continuing import MOST_LOST, Continuing
 from casbench_recording.documents import State
 from casbench_recording.history import History, HistoryError
 from casbench_recording.inspection import Inspector, Shape
-from casbench_recording.judge import Judge
+from casbench_recording.judge import Judge, Passed
 from casbench_recording.parts import Parts
+from casbench_recording.paths import AS_SENT
 from casbench_recording.routes import Kind, Names
 from casbench_recording.routing import hash_of, shard_of
-from casbench_recording.stand_in_store import Faults, Index
+from casbench_recording.stand_in.indexes import Index
 from casbench_recording.unjudged import Unjudged
 
 MADE = "AAAAAAAAAAAAAAAAAAA"  # (with one letter more it is an id as a cluster makes one)
@@ -62,7 +64,7 @@ class JudgeTest(FolderTest):
         if shape is not None:
             names = Names(names.get("names", ["carts", "shop"]), names.get("routed", []))
             shape = Shape("carts", names, shards, shards * 512, True)
-        self.history = history or History(self.file)
+        self.history, self.numbers = history or History(self.file), Numbers()
         self.addCleanup(self.history.end)
         unjudged = Unjudged(self.file)
         self.addCleanup(unjudged.close)
@@ -93,7 +95,11 @@ class JudgeTest(FolderTest):
     def ended(self, judge):
         """Ends the recording; its lines in short, as `index 2 if 1/0` and `201 created 1/0` with the numbers of their calls."""
         judge.close()
-        return [short(it) for it in self.lines()] if os.path.exists(self.file) else []
+        return self.short_lines() if os.path.exists(self.file) else []
+
+    def short_lines(self):
+        """The lines of the history in short."""
+        return [short(it, self.numbers) for it in self.lines()]
 
     def tidy(self):
         """Removes what a recording left, for the next one."""
@@ -115,19 +121,35 @@ class JudgeTest(FolderTest):
         return {it.get("id", "ended"): it["why"] for it in rows}
 
 
-def short(line):
-    """A line in short."""
+class Numbers:
+    """Numbers in the place of the digests of sources: 2 of the first one that a document has, 3 of the next one."""
+
+    def __init__(self):
+        self.documents, self.known = {}, {}
+
+    def of(self, line, k):
+        """That of a digest in a line."""
+        document = self.documents.setdefault(line["n"], line.get("id"))
+        known = self.known.setdefault(document, {})
+        return k if k <= 1 else known.setdefault(k, len(known) + 2)
+
+
+def short(line, numbers=None):
+    """A line in short, with numbers in the place of digests, if they are named."""
     n, body = line["n"], line.get("body") or {}
+    if numbers is not None and line["e"] == "call":
+        numbers.documents[n] = line["id"]
+    number = (lambda k: numbers.of(line, k)) if numbers is not None else int
     if line["e"] == "lost":
-        return f"{n} lost"
+        return f"{n} void" if line.get("void") else f"{n} lost"
     if line["e"] == "call":
-        words = [line["op"], line["id"]] + ([f"k={line['k']}"] if "k" in line else [])
+        words = [line["op"], line["id"]] + ([f"k={number(line['k'])}"] if "k" in line else [])
         words += [f"if {line['if_primary_term']}/{line['if_seq_no']}"] if "if_seq_no" in line else []
         words += [f"shard {line['shard']}"] if "shard" in line else []
         return f"{n} {' '.join(words)}"
     words = [str(line["status"]), body.get("result", ""), body.get("error", {}).get("type", "")[:16]]
     words += [f"{body['_primary_term']}/{body['_seq_no']}"] if "_primary_term" in body else []
-    words += [f"k={body['_source']['k']}"] if "_source" in body else ["found"] if body.get("found") else []
+    words += [f"k={number(body['_source']['k'])}"] if "_source" in body else ["found"] if body.get("found") else []
     return f"{n} " + " ".join(filter(None, words))
 
 
@@ -142,9 +164,10 @@ class WithoutEnd(JudgeTest):
     def part(self, number):
         """The lines of a finished part in short."""
         with open(os.path.join(self.parts, f"part-{number:06}.ndjson"), encoding="utf-8") as lines:
-            return [short(json.loads(it)) for it in lines]
+            return [short(json.loads(it), self.numbers) for it in lines]
 
-    def test_a_source_keeps_its_number_while_the_part_has_it(self):
+    def test_a_source_keeps_its_number(self):
+        """Also when it comes again in a later part."""
         judge = self.judge_in_parts(4)
         self.talk(
             judge,
@@ -152,15 +175,15 @@ class WithoutEnd(JudgeTest):
             ("PUT /carts/_doc/d", {"a": 2}, LOST),
             ("PUT /carts/_doc/d", {"a": 3}, written(1, "updated")),
             ("PUT /carts/_doc/d", {"a": 4}, written(2, "updated")),
-            # (4 and 2 came with the document, 1 is another source now, and so is 3)
             ("GET /carts/_doc/d", None, found(2, {"a": 4})),
             ("PUT /carts/_doc/d", {"a": 1}, written(3, "updated")),
             ("GET /carts/_doc/d", None, found(3, {"a": 1})),
             ("GET /carts/_doc/d", None, found(4, {"a": 2})),
         )
         judge.close()
+        self.assertEqual([it for it in self.part(1) if "index" in it], ["0 index d k=2", "1 index d k=3", "2 index d k=4", "3 index d k=5"])
         stated = ["0 index d k=5", "0 201 created 1/2", "1 index d k=3", "1 lost"]
-        later = ["2 get d", "2 200 1/2 k=5", "3 index d k=6", "3 200 updated 1/3", "4 get d", "4 200 1/3 k=6", "5 get d", "5 200 1/4 k=3"]
+        later = ["2 get d", "2 200 1/2 k=5", "3 index d k=2", "3 200 updated 1/3", "4 get d", "4 200 1/3 k=2", "5 get d", "5 200 1/4 k=3"]
         self.assertEqual(self.part(2), stated + later)
 
     def test_a_source_that_is_written_as_the_document_moves(self):
@@ -175,6 +198,7 @@ class WithoutEnd(JudgeTest):
             ("GET /carts/_doc/d", None, found(3, {"a": 1})),
         )
         judge.close()
+        self.assertEqual([it for it in self.part(1) if "index" in it], ["0 index d k=2", "1 index d k=3"])
         moved = ["0 index d k=3", "0 201 created 1/1", "1 index d k=3", "2 index d k=2", "1 200 updated 1/2", "2 200 updated 1/3"]
         self.assertEqual(self.part(2), moved)
         self.assertEqual(self.part(3), ["0 index d k=2", "0 201 created 1/3", "1 get d", "1 200 1/3 k=2"])
@@ -236,7 +260,7 @@ class Calls(JudgeTest):
     def test_the_call_is_written_before_the_request_is_passed_on(self):
         judge = self.judge()
         self.ask(judge, "PUT", "/carts/_doc/d", {})
-        self.assertEqual([short(it) for it in self.lines()], ["0 index d k=2"])
+        self.assertEqual(self.short_lines(), ["0 index d k=2"])
 
     def test_equal_sources_have_one_number(self):
         judge = self.judge()
@@ -246,6 +270,33 @@ class Calls(JudgeTest):
         self.talk(judge, ("PUT /carts/_doc/e", {"a": 1}, written(4, id="e")))
         calls = [it for it in self.ended(judge) if "index" in it]
         self.assertEqual(calls, ["0 index d k=2", "1 index d k=2", "2 index d k=3", "3 index d k=4", "4 index e k=2"])
+
+    def test_the_number_is_a_digest(self):
+        """It is BLAKE2b of the source, with its keys in order and without spaces."""
+        judge = self.judge()
+        for seq, source in enumerate((b'{"b":[1.50,"\xc3\xa9"], "a":1}', b"{}")):
+            self.answer(judge, self.ask(judge, "PUT", "/carts/_doc/d", source), written(seq, "updated" if seq else "created"))
+        self.talk(judge, ("GET /carts/_doc/d", None, found(1, {})))
+        judge.close()
+        first, second = (hashlib.blake2b(it, digest_size=8).digest() for it in (b'{"a":1,"b":[1.5,"\\u00e9"]}', b"{}"))
+        self.assertEqual([it["k"] for it in self.lines() if "k" in it], [int.from_bytes(it, "big") for it in (first, second)])
+        self.assertEqual(self.lines()[-1]["body"]["_source"]["k"], int.from_bytes(second, "big"))
+        self.assertEqual(self.check(), "yes docs=1 calls=3 left_out=0")
+
+    def test_versions_that_are_forgotten(self):
+        """Of a document at rest the last versions are known by their pairs. An older one of a source that nobody knows isn't guessed."""
+        judge = self.judge()
+        self.talk(judge, ("PUT /carts/_doc/d", {"a": 0}, written(0)), ("POST /carts/_update/d", {"doc": {"b": 1}}, written(1, "updated")))
+        for seq in range(2, 9):
+            self.talk(judge, ("PUT /carts/_doc/d", {"a": seq}, written(seq, "updated")))
+        for way, seq, wanted in (("", 1, "lost"), ("", 0, "lost"), ("", 8, "200 1/8 k=9"), ("?_source=false", 8, "200 1/8 k=9"), ("?_source=false", 2, "lost")):
+            self.talk(judge, (f"GET /carts/_doc/d{way}", None, found(seq, None if way else {"a": seq})))
+            self.assertEqual(self.short_lines()[-1].partition(" ")[2], wanted)
+        # an open call may have been made before they were superseded, so they are known as long as there is one
+        open_get = self.ask(judge, "GET", "/carts/_doc/e")
+        self.talk(judge, *[("POST /carts/_update/e", {"doc": {"b": 1}}, written(seq, "updated" if seq > 9 else "created", "e")) for seq in range(9, 40)])
+        self.answer(judge, open_get, found(9, {"b": 0}, "e"))
+        self.assertEqual(self.short_lines()[-1].partition(" ")[2], "200 1/9 k=1")
 
     def test_a_source_that_nobody_wrote_is_seen(self):
         judge = self.judge()
@@ -390,6 +441,20 @@ class UnknownSources(JudgeTest):
         endings = [it for it in lines if "get" not in it and "index" not in it]
         self.assertEqual(endings[1:], ["1 lost", "2 200 1/0 k=2", "3 lost", "4 lost", "5 200 updated 1/2", "6 200 1/2 k=3"])
         self.assertRegex(self.check(), "^yes ")
+
+    def check_update_sent_again(self, reply, other):
+        """Checks an update that is answered so, and a get that finds the other version that it may have written."""
+        judge = self.judge()
+        self.talk(judge, ("PUT /carts/_doc/d", {"a": 1}, written(0)), ("POST /carts/_update/d", {"doc": {"a": 2}}, reply))
+        self.talk(judge, ("GET /carts/_doc/d", None, found(other, {"a": 2})))
+        self.assertEqual(self.ended(judge)[-1], "2 lost")
+        self.assertRegex(self.check(), "^yes ")
+
+    def test_an_update_that_is_sent_again_finds_what_it_wrote(self):
+        self.check_update_sent_again((200, {**written(2)[1], "result": "noop"}), 1)
+
+    def test_an_update_that_is_sent_again_is_performed_twice(self):
+        self.check_update_sent_again(written(2, "updated"), 1)
 
     def test_an_update_that_changed_nothing_hides_nothing(self):
         judge = self.judge()
@@ -568,7 +633,7 @@ class NotJudged(JudgeTest):
 
     def test_writes_that_can_not_be_known(self):
         writes = ["PUT /carts/_doc/d?op_type=x", "PUT /carts/_doc/d?unheard=of", "POST /carts/kind/d", "DELETE /carts/kind/d"]
-        writes += ["PATCH /carts/_doc/d", "PUT /%3Ccarts-%7Bnow%7D%3E/_doc/d", "PUT /carts,other/_doc/d", "POST /carts/kind/d/_update"]
+        writes += ["PATCH /carts/_doc/d", "PUT /%3Ccart%7Bnow%7D%3E/_doc/d", "PUT /carts,other/_doc/d", "POST /carts/kind/d/_update"]
         for write in writes:
             judge = self.judge()
             self.talk(judge, ("PUT /carts/_doc/d", {"a": 1}, written(0)))
@@ -582,7 +647,7 @@ class NotJudged(JudgeTest):
     def test_requests_that_end_the_recording(self):
         ends = ["DELETE /carts", "DELETE /*", "DELETE /_all", "POST /carts/_rollover", "PUT /carts/_alias/x", "POST /_unheard", "POST /"]
         ends += ["PUT /carts/_doc/d?pipeline=p", "POST /carts/_doc?pipeline=p", "POST /_bulk?pipeline=p", "POST /_snapshot/a/b/_restore"]
-        ends += ["POST /_plugins/_x", "POST /carts/_clone/x", "PUT /carts/_unheard", "POST /*/_unheard", "POST /_bulk?unheard=of"]
+        ends += ["POST /_plugins/_x", "POST /carts/_clone/shop", "PUT /carts/_unheard", "POST /*/_unheard"]
         bodies = [("POST /_aliases", {"a": "carts"}), ("POST /_reindex", {"dest": "shop"}), ("POST /_reindex", {"dest": "c*"})]
         bodies += [("PUT /carts/_settings", {"index.default_pipeline": "p"}), ("PUT /carts/_mapping", {"_source": {}})]
         for request, body in [(it, {}) for it in ends] + bodies:
@@ -784,7 +849,7 @@ class NotEmpty(JudgeTest):
         judge = self.judge(shape=None)
         others = [("PUT", b"/shop/_doc/d", True), ("POST", b"/_bulk", True), ("PUT", b"/x/_doc/d", False), ("GET", b"/shop", False)]
         for method, target, waits in others:
-            judge.found(shape, [(method, target, judge.route(method, target))])
+            judge.found(shape, [Passed(method, target, AS_SENT, judge.route(method, target))])
             self.assertEqual(judge.shape is None, waits)
 
 
@@ -792,7 +857,7 @@ class Answers:
     """A connection that gives the answers of an index of the stand-in, and some that are given."""
 
     def __init__(self, asked, given=()):
-        self.index, self.given = Index("carts", Faults("none", 1), asked), dict(given)
+        self.index, self.given = Index("carts", asked), dict(given)
 
     def open(self, patience):
         pass
@@ -803,7 +868,7 @@ class Answers:
         given = {
             "/carts": {"carts": index.described()},
             "/shop": {"carts": index.described()},
-            "/carts/_stats": {"indices": {"carts": index.stats()}},
+            "/carts/_stats": empty_stats(index),
             "/_cluster/state/metadata/carts": {"metadata": {"indices": {"carts": {"routing_num_shards": index.routing_shards}}}},
             **self.given,
         }

@@ -28,12 +28,13 @@ from unittest import mock
 from measure_proxy import run_clients
 from program import TOP
 from program_test import run_tests
-from recordings import FolderTest, Started, judged
+from recordings import FolderTest, Started, empty_stats, judged
 
 from casbench_recording.cluster import ClusterError
 from casbench_recording.http1 import request_of, split_head
 from casbench_recording.proxy import proxy_of, words_of
-from casbench_recording.stand_in_store import FAULTS, Faults, Index
+from casbench_recording.stand_in.faults import FAULTS
+from casbench_recording.stand_in.indexes import Index
 
 CERTIFICATE = str(TOP / "examples" / "record" / "loopback.pem")
 
@@ -121,7 +122,7 @@ class Scripted(socketserver.ThreadingTCPServer):
     What the proxy asks before it listens is answered as by an index that is empty."""
 
     daemon_threads = True
-    index = Index("carts", Faults("none", 1), {})
+    index = Index("carts", {})
 
     def __init__(self, answer):
         super().__init__(("127.0.0.1", 0), None)
@@ -129,11 +130,15 @@ class Scripted(socketserver.ThreadingTCPServer):
         self.url = f"http://127.0.0.1:{self.server_address[1]}"
         self.thread = threading.Thread(target=self.serve_forever, kwargs={"poll_interval": 0.05})
 
+    def stats(self):
+        """What is answered to the question how many changes were made of the index."""
+        return empty_stats(self.index)
+
     def finish_request(self, connection, address):
         with contextlib.suppress(OSError):
             for request, whole in read_requests(connection):
                 path = request.target.partition(b"?")[0]
-                own = {b"/carts": {"carts": self.index.described()}, b"/carts/_stats": {"indices": {"carts": self.index.stats()}}}
+                own = {b"/carts": {"carts": self.index.described()}, b"/carts/_stats": self.stats(), b"/_cluster/health": {"number_of_nodes": 1}}
                 if request.method == "GET" and path in own:
                     connection.sendall(as_answer(200, own[path]))
                     continue
@@ -262,17 +267,6 @@ class Passed(ProxyTest):
                 self.assertEqual(other.seen, [head + b"{}"])
                 proxy.ended()
             os.path.exists(self.file) and os.remove(self.file)
-
-    def test_a_connection_that_goes_on_in_another_protocol(self):
-        request = b"GET /carts/_doc/d HTTP/1.1\r\nUpgrade: h2c\r\n\r\n"
-        switched = b"HTTP/1.1 101 Switching Protocols\r\n\r\nfrom the cluster"
-        with Scripted(lambda *_: switched) as other:
-            proxy = self.proxy(other.url)
-            with socket.create_connection(("127.0.0.1", proxy.port), timeout=30) as connection:
-                connection.sendall(request + b"GET /other HTTP/1.1\r\n\r\n")
-                self.assertEqual(received(connection, 2 * len(switched)), 2 * switched)
-            self.assertIn("went on in another protocol", proxy.ended())
-        self.assertEqual([it["e"] for it in self.lines()], ["call", "lost"])
 
     def test_connections_stay(self):
         with self.stand_in() as other, self.proxy(other.url) as proxy:
@@ -461,7 +455,7 @@ class Begun(ProxyTest):
         self.asker(other).ask("PUT", "/carts/_doc/old", {})
         self.assertIn("the index carts isn't empty", self.proxy(other.url).url)
         self.assertIn("the document old is there already", self.proxy(other.url, "--documents", "new,old").url)
-        for words in (["--documents", "new,newer"], ["--created-only"]):
+        for words in (["--documents", "new,newer", "--settle", "0"], ["--created-only", "--settle", "0"]):
             self.asker(other).ask("PUT", "/carts/_doc/old", {})
             proxy = self.proxy(other.url, *words)
             asker = self.asker(proxy)
@@ -544,6 +538,8 @@ SAID = {
     "lost-update": ("^refuted kind=stale-swap ", ["--every", "1"], "get put put-if put-old"),
     "pair-twice": ("^refuted kind=pair-twice ", OFTEN, "get put put-if create delete bulk"),
     "false-conflict": ("^refuted kind=no-writer ", OFTEN, "get put put-if"),
+    "lost-writes": ("^yes ", OFTEN, "get put put-if create delete bulk mget"),
+    "lagging-copy": ("^yes ", OFTEN, "get put put-if create delete bulk mget"),
     "drop-before": ("^yes ", SELDOM, "get put put-if put-old create delete bulk mget head update filter"),
     "drop-after": ("^yes ", SELDOM, "get put put-if put-old create delete bulk mget head update filter"),
     "late": ("^yes ", ["--late", "0.3", "--every", "20"], "get put put-if put-old create delete bulk mget head update filter"),

@@ -13,8 +13,8 @@ import itertools
 import os
 import pathlib
 import pty
-import re
 import select
+import shutil
 import signal
 import subprocess
 import sys
@@ -22,9 +22,10 @@ import time
 import unittest
 
 from program_test import run_tests
-from recordings import FolderTest, Started, environment, judged, own_reading
+from recordings import own_reading
 from small_readings import READINGS
 from texts import created, delete, found, get, index, lost, updated
+from watching import SECONDS, WatchTest, heeds_signals
 
 from casbench_recording import proxy, record, watch
 from casbench_recording.history import MOST_EVENTS, Pair
@@ -47,6 +48,9 @@ GOES_ON = index(3, doc="f") + created(3, 2, 2434, doc="f")
 STARTS_LOW = index(3, doc="f") + created(3, 2, 2431, doc="f")
 HINT = "hint: term 2 starts at 2431, but 1/2433 was acknowledged: it may be lost, though no reply shows that\n"
 
+# What is written of a part that is finished.
+PART_LINE = "part-%06d.ndjson: yes docs=%d calls=%d left_out=0\n"
+
 # A program in the place of casbench, which takes so many seconds of a processor and then answers yes. It writes when it began and ended.
 SLOW = """#!{python}
 import sys, time
@@ -58,48 +62,23 @@ print(began, time.time(), file=open({log!r}, "a"), flush=True)
 print("yes docs=1 calls=1 left_out=0")
 """
 
-SECONDS = 60.0
-"""How long anything may take."""
+# Scripts in the place of casbench that give no verdict, and what is reported of each. They run it if asked for an empty text, so that they
+# seem to be one at first.
+NO_VERDICTS = {
+    "says nothing": ("exit 0", "gave no verdict: ''"),
+    "fails without a word": ("exit 1", "gave no verdict: ''"),
+    "says a word alone": ("echo yes", "gave no verdict: 'yes\\n'"),
+    "says it and more": ("echo yes docs=1 calls=1; echo and more", "gave no verdict: "),
+    "says yes with the status of no": ("echo yes docs=1 calls=1 left_out=0; exit 1", "ended with status 1 and gave no verdict: "),
+    "says refuted with the status of yes": ("echo refuted kind=stale-get; exit 0", "ended with status 0 and gave no verdict: "),
+    "repeats the history": ("cat", "gave no verdict: "),
+    "says too much": ("yes yes docs=1 calls=1 left_out=0", "wrote too much and ended with status -9: "),
+    "has another status": ("echo a fault >&2; exit 64", "ended with status 64: a fault"),
+    "is killed": ("kill -9 $$", "ended with status -9: "),
+}
 
 READ = "read"
 """What is shown by a get, and not by the reply to a write."""
-
-
-def heeds_signals(child):
-    """Whether a program has said what it does at SIGTERM."""
-    caught = re.search(r"^SigCgt:\s*(\w+)$", pathlib.Path(f"/proc/{child.pid}/status").read_text(), re.MULTILINE)
-    return int(caught[1], 16) & 1 << signal.SIGTERM - 1
-
-
-class WatchTest(FolderTest):
-    """A test with a watch of a file or a directory."""
-
-    def append(self, text, name="carts.ndjson"):
-        with open(os.path.join(self.folder, name), "a", encoding="utf-8") as file:
-            file.write(text)
-
-    def watched(self, *words, program=None, **how):
-        """The watch as it runs; standard input is the test's."""
-        words = [sys.executable, "-m", "casbench_recording.watch", self.file, "--program", program or self.program, *words]
-        pipes = {"stdin": subprocess.PIPE, "stdout": subprocess.PIPE, "stderr": subprocess.PIPE, "text": True, **how}
-        child = subprocess.Popen(words, env=environment(), **pipes)
-        self.addCleanup(child.wait)
-        self.addCleanup(child.kill)
-        return child
-
-    def ended(self, child, sent=None):
-        """How it ends, after a signal if one is sent: its status, and what it writes on both outputs."""
-        if sent is not None:
-            child.send_signal(sent)
-        printed, fault = child.communicate(timeout=SECONDS)
-        return child.returncode, printed, fault
-
-    def wait_for(self, is_so):
-        """Waits until something is so."""
-        end = time.monotonic() + SECONDS
-        while not is_so():
-            self.assertLess(time.monotonic(), end)
-            time.sleep(0.02)
 
 
 class OneHistory(WatchTest):
@@ -215,6 +194,80 @@ class OneHistory(WatchTest):
         self.assertEqual((status, printed), (4, ""))
         self.assertIn("Not a directory: '/dev/null/casbench'", fault)
 
+    def no_verdict(self, name, text, fault):
+        """A program that gives a verdict at first, and then none of a history that is refuted, is reported at once."""
+        folder = pathlib.Path(self.folder) / name
+        folder.mkdir()
+        script = self.script(f"if [ -e '{folder}/mark' ]; then {text}; else touch '{folder}/mark'; exec $casbench \"$@\"; fi", f"{name}/script")
+        status, printed, told = self.ended(self.watched(program=script))
+        self.assertEqual((status, printed), (4, ""), told)
+        self.assertIn(fault, told)
+
+    def test_programs_that_give_no_verdict(self):
+        self.append(RIGHT + STALE)
+        self.run_subtests(self.no_verdict, [(name, name, *it) for name, it in NO_VERDICTS.items()])
+
+    def test_programs_that_are_none(self):
+        """What can't check is reported at once, before there is a recording."""
+        for name, program in (
+            ("says nothing", "/bin/true"),
+            ("has no such command", "/bin/cat"),
+            ("isn't there", f"{self.folder}/casbench"),
+            ("is run by what isn't there", self.script("", first=f"#!{self.folder}/sh")),
+            ("is a directory", self.folder),
+            ("refutes nothing", self.script("echo refuted kind=stale-get calls=2,1; exit 1", "refutes")),
+        ):
+            with self.subTest(name):
+                status, printed, fault = self.ended(self.watched("--every", "60", program=program))
+                self.assertEqual((status, printed), (4, ""))
+                self.assertRegex(fault, rf"\Acasbench_recording\.watch: {program} (can't be run: |ended with |says of a text ).*\n\Z")
+
+    def test_a_program_that_vanishes(self):
+        """What was checked before doesn't stand for what came later."""
+        log = os.path.join(self.folder, "log")
+        program = self.script(f"echo >>{log}; exec $casbench \"$@\"")
+        self.append(RIGHT)
+        child = self.watched("--every", "0.1", program=program)
+        self.wait_for(lambda: os.path.exists(log) and pathlib.Path(log).read_text().count("\n") == 2)
+        os.remove(program)
+        self.append(STALE)
+        status, printed, fault = self.ended(child)
+        self.assertEqual((status, printed), (4, ""))
+        self.assertIn("No such file or directory", fault)
+
+    def test_a_history_that_is_gone(self):
+        """Lines that were checked, and are there no more, are no recording that is right."""
+        for name, lose in (("removed", os.remove), ("cut off", lambda path: os.truncate(path, 0))):
+            with self.subTest(name):
+                log = os.path.join(self.folder, name)
+                self.append(RIGHT)
+                child = self.watched("--every", "0.1", program=self.script(f"echo >>'{log}'; exec $casbench \"$@\""))
+                self.wait_for(lambda log=log: os.path.exists(log) and pathlib.Path(log).read_text().count("\n") == 2)
+                time.sleep(0.3)
+                lose(self.file)
+                status, printed, fault = self.ended(child)
+                self.assertEqual((status, printed), (4, ""))
+                self.assertIn(f"{self.file} was {name} while it was watched", fault)
+
+    def test_a_refutation_that_nobody_explains(self):
+        """The verdict stands, and the command is run, if `explain` fails, or nobody reads what is printed."""
+        self.append(RIGHT + STALE)
+        mark = os.path.join(self.folder, "mark")
+        for name, text in (("fails", "exit 3"), ("is killed", "kill -9 $$"), ("says nothing", "exit 0"), ("is not read", 'exec $casbench "$@"')):
+            with self.subTest(name):
+                program = self.script(f"if [ $1 = explain ]; then {text}; else exec $casbench \"$@\"; fi")
+                read, write = os.pipe()
+                if name == "is not read":
+                    os.close(read)
+                child = self.watched("--", "touch", mark, program=program, stdout=write)
+                os.close(write)
+                self.assertEqual(self.ended(child)[0], 1)
+                if name != "is not read":
+                    with open(read, encoding="utf-8") as printed:
+                        self.assertEqual(printed.read(), "refuted kind=stale-get calls=2,1 event=5 call=2 before=shown\n")
+                self.assertTrue(os.path.exists(mark))
+                os.remove(mark)
+
     def test_checks_take_a_tenth_of_a_processor(self):
         log, slow = os.path.join(self.folder, "log"), pathlib.Path(self.folder) / "slow"
         slow.write_text(SLOW.format(python=sys.executable, log=log, seconds=0.2))
@@ -224,13 +277,13 @@ class OneHistory(WatchTest):
         for number in itertools.count(10):
             self.append(get(number))
             time.sleep(0.1)
-            if os.path.exists(log) and pathlib.Path(log).read_text().count("\n") == 3:
+            if os.path.exists(log) and pathlib.Path(log).read_text().count("\n") == 4:
                 break
             self.assertLess(number, 10 * SECONDS)
         self.assertEqual(self.ended(child, signal.SIGTERM)[0], 0)
         times = [float(it) for it in pathlib.Path(log).read_text().split()]
-        # (each takes 0.2 seconds at least)
-        rests = [began - ended for ended, began in zip(times[1:5:2], times[2:5:2])]
+        # (each takes 0.2 seconds at least; the first one is of no line, and tries whether the program checks)
+        rests = [began - ended for ended, began in zip(times[3:7:2], times[4:7:2])]
         self.assertGreater(min(rests), 9 * 0.2)
 
     def test_a_terminal(self):
@@ -268,8 +321,58 @@ class Directory(WatchTest):
         self.assertEqual(sorted(os.listdir(self.file)), ["notes", "part-000002.ndjson.growing"])
         os.rename(os.path.join(self.folder, "parts/part-000002.ndjson.growing"), os.path.join(self.folder, "parts/part-000002.ndjson"))
         self.append(RIGHT, "parts/shard-0.ndjson")
-        self.assertEqual(self.ended(child, signal.SIGTERM)[:2], (0, "3 parts: 3 yes, 0 no, 0 refused; 2 deleted\n"))
+        finished = "".join(PART_LINE % (number, 1, 2) for number in (1, 2))
+        self.assertEqual(self.ended(child, signal.SIGTERM)[:2], (0, f"{finished}3 parts: 3 yes, 0 no, 0 refused; 2 deleted\n"))
         self.assertEqual(sorted(os.listdir(self.file)), ["notes", "shard-0.ndjson"])
+
+    def test_a_part_that_is_finished_without_more_lines(self):
+        """It has its line once, though it isn't checked again."""
+        self.append(RIGHT, f"{self.part}.growing")
+        log = os.path.join(self.folder, "log")
+        child = self.watched("--every", "0.1", program=self.script(f"echo >>{log}; exec $casbench \"$@\""))
+        self.wait_for(lambda: os.path.exists(log) and pathlib.Path(log).read_text().count("\n") == 2)
+        os.rename(os.path.join(self.folder, f"{self.part}.growing"), os.path.join(self.folder, self.part))
+        self.assertEqual(child.stdout.readline(), PART_LINE % (1, 1, 2))
+        self.append(RIGHT, "parts/shard-0.ndjson")
+        self.wait_for(lambda: pathlib.Path(log).read_text().count("\n") == 3)
+        self.assertEqual(self.ended(child, signal.SIGTERM)[:2], (0, "2 parts: 2 yes, 0 no, 0 refused\n"))
+
+    def test_lines_that_are_gone(self):
+        """It ends at once: the directory, or a part that grows, or a history that is no part, isn't deleted while it is watched."""
+        growing = "parts/part-000002.ndjson.growing"
+        for name, lose, lost in (
+            ("the directory", shutil.rmtree, "parts"),
+            ("a part that grows", lambda path: os.remove(os.path.join(self.folder, growing)), "parts/part-000002.ndjson"),
+            ("a shard", lambda path: os.remove(os.path.join(path, "shard-0.ndjson")), "parts/shard-0.ndjson"),
+        ):
+            with self.subTest(name):
+                shutil.rmtree(self.file)
+                os.mkdir(self.file)
+                for it in (self.part, growing, "parts/shard-0.ndjson"):
+                    self.append(RIGHT, it)
+                log = os.path.join(self.folder, name)
+                child = self.watched("--every", "0.1", program=self.script(f"echo >>'{log}'; exec $casbench \"$@\""))
+                self.wait_for(lambda log=log: os.path.exists(log) and pathlib.Path(log).read_text().count("\n") == 4)
+                lose(self.file)
+                status, printed, fault = self.ended(child)
+                self.assertEqual((status, printed), (4, PART_LINE % (1, 1, 2)), fault)
+                self.assertEqual(fault, f"casbench_recording.watch: {self.folder}/{lost} was removed while it was watched\n")
+                os.makedirs(self.file, exist_ok=True)
+
+    def test_finished_parts_that_others_delete(self):
+        """They aren't lost, whether they were finished at first or meanwhile."""
+        self.append(RIGHT, self.part)
+        self.append(RIGHT, "parts/part-000002.ndjson.growing")
+        self.append(RIGHT, "parts/part-000003.ndjson.growing")
+        child = self.watched("--every", "0.1")
+        self.assertEqual(child.stdout.readline(), PART_LINE % (1, 1, 2))
+        os.rename(os.path.join(self.folder, "parts/part-000002.ndjson.growing"), os.path.join(self.folder, "parts/part-000002.ndjson"))
+        self.assertEqual(child.stdout.readline(), PART_LINE % (2, 1, 2))
+        os.remove(os.path.join(self.folder, self.part))
+        os.remove(os.path.join(self.folder, "parts/part-000002.ndjson"))
+        self.append(RIGHT, "parts/part-000004.ndjson")
+        self.assertEqual(child.stdout.readline(), PART_LINE % (4, 1, 2))
+        self.assertEqual(self.ended(child, signal.SIGTERM)[:2], (0, "4 parts: 4 yes, 0 no, 0 refused\n"))
 
     def test_a_part_that_is_refuted(self):
         self.append(RIGHT, self.part)
@@ -279,7 +382,7 @@ class Directory(WatchTest):
         status, printed, _ = self.ended(child)
         self.assertEqual(status, 1)
         path = os.path.join(self.file, "part-000002.ndjson.growing")
-        self.assertTrue(printed.startswith(f"{path}:\nrefuted kind=stale-get calls=2,1 "), printed)
+        self.assertTrue(printed.startswith(f"{PART_LINE % (1, 1, 2)}{path}:\nrefuted kind=stale-get calls=2,1 "), printed)
         self.assertTrue(os.path.exists(path))
 
     def test_a_term_that_starts_too_low_in_a_later_part(self):
@@ -287,7 +390,8 @@ class Directory(WatchTest):
         child = self.watched("--every", "0.1", "--delete-parts")
         self.wait_for(lambda: not os.path.exists(os.path.join(self.folder, self.part)))
         self.append(STARTS_LOW, "parts/part-000002.ndjson.growing")
-        self.assertEqual(self.ended(child, signal.SIGTERM)[:2], (0, f"2 parts: 2 yes, 0 no, 0 refused; 1 deleted\n{HINT}"))
+        wanted = f"{PART_LINE % (1, 2, 3)}2 parts: 2 yes, 0 no, 0 refused; 1 deleted\n{HINT}"
+        self.assertEqual(self.ended(child, signal.SIGTERM)[:2], (0, wanted))
 
     def test_histories_that_are_no_parts_have_terms_of_their_own(self):
         self.append(ACKNOWLEDGED, "parts/one.ndjson")
@@ -300,7 +404,8 @@ class Directory(WatchTest):
         self.append(NONE, self.part)
         child = self.watched("--every", "0.1", "--delete-parts")
         self.wait_for(lambda: heeds_signals(child))
-        wanted = "1 part: 0 yes, 0 no, 1 refused\nrefused line=1 cause=shape\n"
+        refused = "refused line=1 cause=shape\n"
+        wanted = f"part-000001.ndjson: {refused}1 part: 0 yes, 0 no, 1 refused\n{refused}"
         self.assertEqual(self.ended(child, signal.SIGTERM)[:2], (2, wanted))
         self.assertEqual(os.listdir(self.file), ["part-000001.ndjson"])
 
@@ -397,83 +502,6 @@ class TermsOfShards(unittest.TestCase):
         self.assertEqual((reader.length, terms.hints()), (len(text), []))
         reader.read((get(4, ',"shard":2') + found(4, 3, 9)).encode().splitlines(keepends=True))
         self.assertEqual([str(it) for it in terms.hints()], ["shard 2, term 3 starts at 9, but 1/9 was acknowledged"])
-
-
-class Beside(WatchTest):
-    """A recorder with a watch of its own."""
-
-    def recorder(self, store, *words):
-        """The recorder as it runs, with a watch, in a process group of its own."""
-        words = [sys.executable, "-m", "casbench_recording.record", store.url, "carts", self.file, "--watch", "--program", self.program, *words]
-        how = {"stdout": subprocess.PIPE, "stderr": subprocess.PIPE, "text": True, "start_new_session": True}
-        child = subprocess.Popen(words, env=environment(), **how)
-        self.addCleanup(child.wait)
-        self.addCleanup(child.kill)
-        return child
-
-    def group(self, child):
-        """The processes of its group."""
-        ran = subprocess.run(["ps", "-o", "pid=", "--no-headers", "-s", str(child.pid)], capture_output=True, text=True)
-        return len(ran.stdout.split())
-
-    def test_it_stops_the_load_at_the_first_fault(self):
-        period = 3
-        with Started("stand_in", "--port", "0", "--fault", "stale-get") as store:
-            status, printed, fault = self.ended(self.recorder(store, "--seconds", "600", "--every", str(period)))
-        self.assertEqual(status, 1, fault)
-        refuted = re.match(r"refuted kind=stale-get calls=\d+,\d+ event=(\d+) ", printed)
-        self.assertRegex(printed, r"\nrecorded \d+ calls in .*\n\Z")
-        lines = self.lines()
-        self.assertLess(lines[-1]["t"] - lines[int(refuted[1])]["t"], 2 * period * 1000)
-        self.assertEqual(self.check("--rule-out").partition(" ")[0], "refuted")
-
-    def test_the_last_check_has_the_last_line(self):
-        with Started("stand_in", "--port", "0") as store:
-            status, printed, fault = self.ended(self.recorder(store, "--calls", "100", "--every", "60"))
-        self.assertEqual((status, fault), (0, ""))
-        self.assertEqual(printed, f"yes docs=8 calls=400 left_out=0\nrecorded 400 calls in {self.file}, 0 of them without a reply\n")
-
-    def test_an_interruption_of_the_whole_group(self):
-        with Started("stand_in", "--port", "0") as store:
-            child = self.recorder(store, "--seconds", "600", "--every", "0.2")
-            self.wait_for(lambda: os.path.exists(self.file) and os.path.getsize(self.file) > 100_000)
-            os.killpg(child.pid, signal.SIGINT)
-            status, printed, fault = self.ended(child)
-        self.assertEqual((status, fault), (130, ""))
-        calls = re.fullmatch(r"yes docs=8 calls=(\d+) left_out=0\nrecorded (\d+) calls in .*\n", printed)
-        self.assertEqual(calls[1], calls[2])
-        self.assertEqual(self.check(), printed.partition("\n")[0])
-
-    def test_a_recorder_that_is_killed_leaves_no_watch(self):
-        with Started("stand_in", "--port", "0") as store:
-            child = self.recorder(store, "--seconds", "600", "--every", "0.2")
-            self.wait_for(lambda: os.path.exists(self.file) and self.group(child) >= 2)
-            child.kill()
-            child.communicate(timeout=SECONDS)
-            self.wait_for(lambda: self.group(child) == 0)
-
-    def test_a_watch_that_can_not_check(self):
-        with Started("stand_in", "--port", "0") as store:
-            child = self.recorder(store, "--seconds", "600", "--program", "/dev/null/casbench", "--every", "0.2")
-            status, printed, fault = self.ended(child)
-        self.assertEqual(status, 4, fault)
-        self.assertIn("Not a directory: '/dev/null/casbench'", fault)
-        self.assertTrue(judged(self.program, self.file).startswith("yes "), printed)
-
-    def test_a_proxy_that_stops_the_load(self):
-        """The load can't connect any more, so it ends too."""
-        parts = os.path.join(self.folder, "parts")
-        with Started("stand_in", "--port", "0", "--fault", "stale-get") as store:
-            words = ["--listen", "127.0.0.1:0", "--cluster", store.url, "--index", "carts", "--part", "500", "--watch", "--every", "1"]
-            with Started("proxy", *words, "--program", self.program, parts) as proxy:
-                words = ["--seconds", "600", "--patience", "0", proxy.url, "carts", self.file]
-                load = [sys.executable, "-m", "casbench_recording.record", *words]
-                ran = subprocess.run(load, capture_output=True, text=True, env=environment(), timeout=SECONDS)
-                printed, fault = proxy.process.communicate(timeout=SECONDS)
-        self.assertEqual((ran.returncode, proxy.process.returncode), (1, 1), ran.stderr)
-        self.assertIn("Connection refused", ran.stderr)
-        self.assertRegex(printed, r"\A.*/parts/part-\d+\.ndjson(\.growing)?:\nrefuted kind=")
-        self.assertRegex(printed, r"\nrecorded \d+ calls in .*\njudged: 8 documents, .*\n\Z")
 
 
 if __name__ == "__main__":

@@ -1,16 +1,17 @@
 """What an answer says of the calls of its request. The lines of their endings are written before the answer is passed on."""
 
-from typing import Any, Dict, Iterator, List, Optional, Sequence
+from typing import Any, Dict, Iterator, List, Optional, Sequence, Union
 
 from .asked import Asked, Part
 from .asking import Asking
 from .bodies import MOST_READ
 from .bulk import items_of_long
-from .documents import NOT_JUDGED, UNSURE, Document, State, digest_of, is_id, object_of
-from .history import Call, Ending, Reply, pair_of, text_of_find, text_of_write
+from .documents import NOT_JUDGED, UNSURE, Digest, Document, State, digest_of, is_id, object_of
+from .history import CONFLICT, Call, Ending, Loss, Pair, Reply, pair_of, text_of_find, text_of_write
 from .ledger import Ledger
 from .routes import BULK, SWEEP, Kind
 from .told import item_status, listed, missing_by_length, readable, told_true
+from .unperformed import changed_nothing, is_unperformed, type_of
 from .usual import read_reply
 
 MOST_AT_ONCE = 500
@@ -18,6 +19,9 @@ MOST_AT_ONCE = 500
 
 OF_SEVERAL = (BULK, Kind.MULTIPLE_GET, SWEEP)
 """Requests on several documents, or on ones that nobody names."""
+
+PERFORMED = {"created", "updated", "deleted", "not_found"}
+"""The results of writes that were performed."""
 
 Body = Dict[str, Any]
 
@@ -61,7 +65,11 @@ class Answering:
             call = ending_call(part) if part is not None else None
             if call is not None:
                 lost.append(call)
+                if part.turn:
+                    heed_write(part, Loss.UNKNOWN, 0, {})
         self._recording.lose(lost)
+        for part in filter(None, asked.parts):
+            self._ledger.rests(part)
 
     def _heed_answer(self, asked: Asked, status: int, content: Optional[bytes], length: Optional[int]) -> None:
         """Writes what an answer says to a request that makes one call."""
@@ -83,6 +91,10 @@ class Answering:
             items = listed(body, "docs", len(asked.parts)) if status == 200 else iter(())
             yield from self._answered_items(asked.parts, items, "docs")
         else:
+            if is_unperformed(status, body):
+                for part in filter(None, asked.parts):
+                    self._answered(part, status, body)
+                return
             whole = items_of_long(content) if is_long and content is not None else listed(body, "items", len(asked.parts))
             yield from self._answered_items(asked.parts, whole if status == 200 else iter(()), "items")
 
@@ -102,6 +114,9 @@ class Answering:
                 if part is not None:
                     self._answered_item(part, item, member)
             self._flush()
+            for part in parts[at : at + MOST_AT_ONCE]:
+                if part is not None:
+                    self._ledger.rests(part)
 
     def _answered_item(self, part: Part, item: Any, member: str) -> None:
         """Writes what an answer says of an item."""
@@ -124,34 +139,38 @@ class Answering:
                 self._ledger.untold(part.id, "an answer told another id")
                 self._ledger.untold(str(body["_id"]), "an answer told this id, and another one was asked for")
                 body = None
-            self._end(part, self._reply(part, status, body) if body is not None else None)
+            ending = self._reply(part, status, body) if body is not None else Loss.UNKNOWN
+            self._end(part, ending, status, body or {})
 
-    def _reply(self, part: Part, status: int, body: Body) -> Optional[Reply]:
-        """The status and the text of the body that are written for a reply; None where it is lost."""
+    def _reply(self, part: Part, status: int, body: Body) -> Union[Reply, Loss]:
+        """The status and the text of the body that are written for a reply, or what is known without them."""
         document = part.document
         assert document is not None
         pair, result, value = pair_of(body), body.get("result"), part.operation.value
         text: Optional[str] = None
         if part.op == "get":
             if status == 200 and body.get("found") is True and pair is not None:
-                source = body.get("_source")
-                # (a reply of the usual form has its digest there)
-                digest = source if isinstance(source, bytes) else digest_of(source) if isinstance(source, dict) else None
-                number = document.number_shown(pair, digest, part.shows_all and isinstance(source, (dict, bytes)))
+                number = self._number_shown(part, document, pair, body.get("_source"))
                 if number is None:
-                    return None
+                    return Loss.UNKNOWN
                 text = text_of_find(part.id, pair, number)
+        elif (status >= 400 or part.is_update) and is_void(part, status, body):
+            return Loss.VOID
         elif status == 409 and not part.is_sure:
-            return None
+            return Loss.OVER if type_of(body.get("error")) == CONFLICT else Loss.UNKNOWN
         elif pair is not None and value is not None and (status, result) in ((201, "created"), (200, "updated")):
             document.written(pair, value)
             text = text_of_write(part.id, "created" if status == 201 else "updated", pair)
-        elif (status, result) == (200, "noop") and value is not None:
-            document.wrote_nothing(value)
         if document.state is UNSURE and not self._is_settled(part, status, body):
-            return None
+            return Loss.UNKNOWN
         text = text or readable(part.id, body)
-        return (status, text) if text is not None else None
+        return (status, text) if text is not None else Loss.UNKNOWN
+
+    def _number_shown(self, part: Part, document: Document, pair: Pair, source: Any) -> Optional[int]:
+        """The number of the version that a get found, with this source; None if it can't be told."""
+        # (a reply of the usual form has its digest there)
+        digest = source if isinstance(source, Digest) else digest_of(source) if isinstance(source, dict) else None
+        return document.number_shown(pair, digest, part.shows_all and isinstance(source, (dict, Digest)))
 
     def _is_settled(self, part: Part, status: int, body: Body) -> bool:
         """Whether a reply settles that the document wasn't there before. One that shows that it was ends its judgement."""
@@ -174,29 +193,36 @@ class Answering:
         The call's line stands late. That is right: the document has no other call between the line and where it belongs.
         """
         id, pair = (body or {}).get("_id"), pair_of(body)
+        if is_unperformed(status, body):
+            self._ledger.unnamed -= 1
+            return
         if status != 201 or body is None or pair is None or not isinstance(id, str) or body.get("result") != "created":
             return
         ledger = self._ledger
         ledger.unnamed -= 1
-        if ledger.shape is None or id in ledger.documents or not is_id(id) or ledger.only is not None:
+        if ledger.shape is None or ledger.is_known(id) or not is_id(id) or ledger.only is not None:
             ledger.untold(id, "it was asked for before an answer told its id")
             return
         part.id = id
-        ledger.documents[id] = Document(id, ledger.shape.shard_of(id), State.JUDGED)
+        ledger.documents.add(Document(id, ledger.shape.shard_of(id), State.JUDGED))
         if ledger.sweeps != part.sweeps or ledger.open_sweeps:
             ledger.mark(id, "it was made while a request changed documents that nobody named")
         elif self._asking.write_part(part):
             self._answered(part, status, body)
 
-    def _end(self, part: Part, reply: Optional[Reply]) -> None:
-        """Ends the call of a part, by a reply or as lost."""
+    def _end(self, part: Part, ending: Union[Reply, Loss], status: int, body: Body) -> None:
+        """Ends the call of a part, by a reply or without one."""
         call = ending_call(part)
         if call is None:
             return
+        if part.turn:
+            heed_write(part, ending, status, body)
         if self._endings is None:
-            self._recording.write_ending(call, reply)
+            self._recording.write_ending(call, ending)
+            if not part.turn:
+                self._ledger.rests(part)
         else:
-            self._endings.append((call, reply))
+            self._endings.append((call, ending))
 
     def _flush(self) -> None:
         """Writes the endings that wait; those that follow are written at once."""
@@ -210,5 +236,36 @@ def ending_call(part: Part) -> Optional[Call]:
     if call is None or document is None:
         return None
     part.call = None
-    document.open.pop(call, None)
+    document.closes(call)
+    if part.turn:
+        document.ends_write()
     return call if document.state is not NOT_JUDGED else None
+
+
+def is_void(part: Part, status: int, body: Body) -> bool:
+    """Whether a reply proves that a write was not performed, at no attempt.
+
+    An update is tried by the primary's node, which may have performed an earlier attempt and then finds nothing to change, or, after a
+    delete, no document. If no other write was under way neither can be: what was acknowledged before is what it found.
+    """
+    if is_unperformed(status, body, part.is_handed_on):
+        return True
+    document = part.document
+    if document is None or not part.is_update or not changed_nothing(status, body):
+        return False
+    was_alone = part.is_alone and document.is_last(part.turn)
+    return was_alone and (status == 404 or part.before is not None and pair_of(body) == part.before)
+
+
+def heed_write(part: Part, ending: Union[Reply, Loss], status: int, body: Body) -> None:
+    """Heeds what the ending of a write, and the reply, say of whether it was performed."""
+    document = part.document
+    assert document is not None
+    pair = pair_of(body) if not isinstance(ending, Loss) and body.get("result") in PERFORMED else None
+    if pair is not None:
+        document.acknowledges(part.turn, pair)
+    elif ending is Loss.VOID:
+        document.wrote_nothing(part.operation)
+    else:
+        is_conflict = status == 409 and type_of(body.get("error")) == CONFLICT
+        document.doubts(part.operation, is_conflict or changed_nothing(status, body))

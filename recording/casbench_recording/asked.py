@@ -1,7 +1,7 @@
 """What a request asks, once it was read: its calls, each with how its reply is read."""
 
 import re
-from typing import Any, List, Mapping, Optional, Sequence, Tuple
+from typing import Any, List, Mapping, NamedTuple, Optional, Sequence, Tuple
 
 from .bulk import Items
 from .documents import Document
@@ -23,19 +23,36 @@ WEIGHT_OF_A_PART = 512
 """About how many bytes a part takes that has no call yet, with its words."""
 
 
+class Who(NamedTuple):
+    """Who asks, and through which node; each is empty if it isn't known."""
+
+    client: str = ""
+    node: str = ""
+
+
+NOBODY = Who()
+"""Who asks if nobody says."""
+
+
 class Part:
     """A call that a request makes, and how its reply is read."""
 
-    __slots__ = ("id", "op", "words", "digest", "document", "call", "client", "sweeps", "operation", "is_sure")
+    __slots__ = ("id", "op", "words", "digest", "document", "call", "who", "sweeps", "operation", "is_sure", "is_update", "is_handed_on")
+    __slots__ += ("turn", "is_alone", "before")
 
     # who asks, and how many sweeps there had been when it was made
-    client: str
+    who: "Who"
     sweeps: int
     # what its line says, and whether that is the whole condition, so that a conflict may be recorded
     operation: Operation
     is_sure: bool
+    # the turn of a write among those of its document, 0 of a get
+    turn: int
+    # of an update whether each write before it was over and its outcome known, and the greatest pair that one was acknowledged with
+    is_alone: bool
+    before: Optional[Pair]
 
-    def __init__(self, id: str, op: str, words: Mapping[str, Any], digest: Optional[bytes] = None) -> None:
+    def __init__(self, id: str, op: str, words: Mapping[str, Any], digest: Optional[int] = None) -> None:
         # (an empty id if the answer tells it)
         self.id = id
         self.op = op
@@ -43,6 +60,8 @@ class Part:
         # of the source that is written, if it can be known
         self.digest = digest
         self.document: Optional[Document] = None
+        # whether it is an update, and whether its request is one alone, which is handed to the primary's node
+        self.is_update = self.is_handed_on = False
         # its call, once the line is written
         self.call: Optional[Call] = None
 
@@ -73,13 +92,13 @@ class Asked:
 class Making(Asked):
     """A request that may make the index, and is passed on alone: what it asks is told once the index was looked at."""
 
-    __slots__ = ("route", "method", "content", "client")
+    __slots__ = ("route", "method", "content", "who")
 
-    def __init__(self, route: Route, method: str, content: Optional[bytes], client: str) -> None:
+    def __init__(self, route: Route, method: str, content: Optional[bytes], who: Who) -> None:
         super().__init__(route.kind, ())
         self.route = route
         self.method = method
-        self.client = client
+        self.who = who
         # (None where it can't be read)
         self.content = content
 
@@ -99,15 +118,15 @@ class Making(Asked):
 class AskedInPieces(Asked):
     """A bulk request, whose items are read as they come."""
 
-    __slots__ = ("items", "words", "room", "client", "unnamed")
+    __slots__ = ("items", "words", "room", "who", "unnamed")
 
     parts: List[Optional[Part]]
 
-    def __init__(self, words: Mapping[str, str], room: str, client: str, longest: int) -> None:
+    def __init__(self, words: Mapping[str, str], room: str, who: Who, longest: int) -> None:
         super().__init__(Kind.BULK, [])
         self.items = Items(longest)
         self.words = words
-        self.client = client
+        self.who = who
         # the index that the path names
         self.room = room
         # how many parts are kept whose ids the answer tells

@@ -1,30 +1,29 @@
 """Which calls a request makes. Their lines are written before the request is passed on."""
 
+import re
 from typing import Any, Dict, Iterator, List, Mapping, Optional, Sequence
 
-from .asked import Asked, AskedInPieces, Part, condition_of
-from .bodies import MOST_READ, texts_of
+from .asked import NOBODY, Asked, AskedInPieces, Part, Who, condition_of
+from .bodies import MOST_READ
 from .bulk import Item, Untellable
 from .documents import NOT_JUDGED, Document, digest_of_text, object_of
-from .history import WRITES_A_VALUE, Operation
+from .history import WRITES_A_VALUE, Operation, length_of
 from .inspection import Shape
-from .ledger import Ledger
-from .routes import BULK, CALL, OF_A_GET, OF_AN_UPDATE, SWEEP, Kind, Route
-
-MOST_LOOKED_AT = 512 * 1024
-"""The most bytes of a body of settings, mappings or aliases that is looked at."""
+from .ledger import BEFORE, Ledger
+from .looks import may_write
+from .routes import BULK, CALL, OF_A_GET, OF_AN_ITEM, SWEEP, Kind, Route, asks_for_latest
 
 MOST_PLACES = 5000
 """The most documents of a get of several that is recorded."""
-
-OF_AN_ITEM = {"_index", "_type", "_id", "op_type", *OF_AN_UPDATE}
-"""What may stand in the action of a bulk request's item."""
 
 OF_A_PLACE = {"_index", "_type", "_id", *OF_A_GET}
 """What may stand in a place of a get of several."""
 
 OF_A_PARTIAL_UPDATE = {"doc", "doc_as_upsert", "upsert", "detect_noop", "_source"}
 """What may stand in the body of an update that writes a document and can't delete it."""
+
+HALF = re.compile("[\ud800-\udfff]")
+"""Half of a surrogate pair, which UTF-8 has no bytes for."""
 
 Body = Dict[str, Any]
 
@@ -36,17 +35,17 @@ class Asking:
         self._ledger = ledger
         self._recording = ledger.recording
 
-    def ask(self, route: Route, method: str, content: Optional[bytes], client: str = "") -> Optional[Asked]:
+    def ask(self, route: Route, method: str, content: Optional[bytes], who: Who = NOBODY) -> Optional[Asked]:
         """Writes the calls of a client's request, before it is passed on. The content is None where it can't be read."""
         try:
-            return None if self._recording.has_ended else self._ask(route, method, content, client)
+            return None if self._recording.has_ended else self._ask(route, method, content, who)
         except Exception as fault:
             self._recording.end_by(fault)
         return None
 
-    def ask_in_pieces(self, route: Route, client: str = "") -> AskedInPieces:
+    def ask_in_pieces(self, route: Route, who: Who = NOBODY) -> AskedInPieces:
         """Begins with a client's bulk request, whose content comes in pieces."""
-        return AskedInPieces(route.words, route.room, client, MOST_READ)
+        return AskedInPieces(route.words, route.room, who, MOST_READ)
 
     def take_items(self, asked: AskedInPieces, content: Optional[bytes], is_last: bool, has_room: bool = True) -> None:
         """Writes the calls of the items that are whole, before they are passed on. The content is None where it can't be read.
@@ -58,7 +57,7 @@ class Asking:
                 raise Untellable("a bulk request whose body can't be read")
             if content is not None and not self._recording.has_ended:
                 parts = [self._item(it, asked) for it in asked.items.take(content, is_last)]
-                self._write_parts(parts, asked.client)
+                self._write_parts(parts, asked.who)
                 asked.add(parts, has_room)
         except Exception as fault:
             self._recording.end_by(fault)
@@ -77,21 +76,24 @@ class Asking:
         except Exception as fault:
             self._recording.end_by(fault)
 
-    def _ask(self, route: Route, method: str, content: Optional[bytes], client: str) -> Optional[Asked]:
+    def _ask(self, route: Route, method: str, content: Optional[bytes], who: Who) -> Optional[Asked]:
         kind = route.kind
         if kind is CALL:
             digest = digest_of_text(content) if route.op in WRITES_A_VALUE else None
-            return self._made_one(kind, Part(route.id, route.op, route.words, digest), client, method == "HEAD")
+            return self._made_one(kind, Part(route.id, route.op, route.words, digest), who, method == "HEAD")
         if kind is Kind.NEW:
-            return self._made_one(kind, Part("", route.op, route.words, digest_of_text(content)), client)
+            return self._made_one(kind, Part("", route.op, route.words, digest_of_text(content)), who)
         if kind is Kind.UPDATE:
-            return self._made(kind, [self._update(route.id, route.words, object_of(content))], client)
+            part = self._update(route.id, route.words, object_of(content))
+            if part is not None:
+                part.is_handed_on = True
+            return self._made(kind, [part], who)
         if kind is BULK:
-            bulk = self.ask_in_pieces(route, client)
+            bulk = self.ask_in_pieces(route, who)
             self.take_items(bulk, content, True)
             return bulk if bulk.has_calls else None
         if kind is Kind.MULTIPLE_GET:
-            return self._made(kind, list(self._places(route, object_of(content))), client)
+            return self._made(kind, list(self._places(route, object_of(content))), who)
         if kind is SWEEP:
             asked = self.begin_sweep(route)
             for _ in self.sweeping(route):
@@ -101,31 +103,31 @@ class Asking:
             self._left_out(route.id, route.why)
             if route.op == "new":
                 self._ledger.untold("", route.why)
-        elif kind is Kind.END or kind is Kind.LOOK and not is_harmless(route, content):
+        elif kind is Kind.END or kind is Kind.LOOK and may_write(route.look, content, route.words, self._ledger.names):
             raise Untellable(route.why)
         return None
 
     # The calls of a request, and their lines
 
-    def _made_one(self, kind: Kind, part: Part, client: str, is_head: bool = False) -> Asked:
+    def _made_one(self, kind: Kind, part: Part, who: Who, is_head: bool = False) -> Asked:
         """Writes the call of a request that makes one, before the request is passed on."""
-        part.client = client
+        part.who = who
         if self._is_ready(part) and part.document is not None:
             self.set_operation(part, part.document)
             self._recording.write_calls_of(self._recording.history.of_shard(part.document.shard), [part])
         return Asked(kind, (part,), is_head)
 
-    def _made(self, kind: Kind, parts: List[Optional[Part]], client: str) -> Optional[Asked]:
+    def _made(self, kind: Kind, parts: List[Optional[Part]], who: Who) -> Optional[Asked]:
         """Writes the calls of the parts, all of them before the request is passed on."""
-        self._write_parts(parts, client)
+        self._write_parts(parts, who)
         called = [it if it is not None and it.call is not None else None for it in parts]
         return Asked(kind, called) if any(it is not None for it in called) else None
 
-    def _write_parts(self, parts: Sequence[Optional[Part]], client: str) -> None:
+    def _write_parts(self, parts: Sequence[Optional[Part]], who: Who) -> None:
         """Writes the calls of the parts."""
         for it in parts:
             if it is not None:
-                it.client = client
+                it.who = who
         ready = [it for it in parts if it is not None and self._is_ready(it)]
         judged = []
         for it in ready:
@@ -150,6 +152,11 @@ class Asking:
         if not part.id:
             ledger.unnamed += 1
             return True
+        if ledger.is_settling:
+            if part.op != "get":
+                ledger.untold(part.id, BEFORE)
+            ledger.left_out += 1
+            return False
         shape = ledger.shape
         if shape is not None and shape.shards == 1 or self._is_known(part, shape):
             part.document = ledger.document(part.id)
@@ -177,31 +184,45 @@ class Asking:
             document.writes += 1
         elif part.op == "delete":
             document.deletes += 1
-        part.operation = Operation(part.op, part.id, number, condition, document.shard, part.client)
+        if part.is_update:
+            part.is_alone, part.before = document.is_settled, document.acknowledged
+        part.turn = document.begins_write() if part.op != "get" else 0
+        part.operation = Operation(part.op, document.id, number, condition, document.shard, *part.who)
 
     # What a request says of a document
 
     def _left_out(self, id: str, why: str) -> None:
         """Heeds a write that can't be told, and has no line."""
+        self._left_out_of([id], why)
+
+    def _left_out_of(self, ids: Sequence[str], why: str) -> None:
+        """The same of a write of one of several documents."""
         self._ledger.left_out += 1
-        self._ledger.untold(id, why)
+        for it in ids:
+            self._ledger.untold(it, why)
 
     def _update(self, id: str, words: Mapping[str, Any], body: Optional[Body]) -> Optional[Part]:
         """The call that an update is: a write of a source that nobody knows, where it can't be a delete."""
         if body is None or not OF_A_PARTIAL_UPDATE.issuperset(body):
             self._left_out(id, "it was updated, perhaps by a script")
             return None
-        return Part(id, "index", {"if_seq_no": None, **words})
+        part = Part(id, "index", {"if_seq_no": None, **words})
+        part.is_update = True
+        return part
 
     def _item(self, item: Item, asked: AskedInPieces) -> Optional[Part]:
         """The call of an item of a bulk request, or None where it is none of the index, or can't be told."""
         op, words, ledger = item.op, {**asked.words, **item.words}, self._ledger
         index, id = words.get("_index", asked.room), words.get("_id", "")
-        if op not in ("index", "create", "delete", "update") or not isinstance(index, str) or not isinstance(id, str):
+        index, id = asked.room if index is None else index, "" if id is None else id
+        if op not in ("index", "create", "delete", "update") or not isinstance(index, str):
             raise Untellable(f"a bulk request with the action {op[:20]!r}")
-        if index not in ledger.names.all:
-            if ledger.names.may_be_among(index):
-                self._left_out(id, f"it was written by a bulk request to {index[:200]}")
+        if index not in ledger.names.all and not ledger.names.may_be_among(index):
+            return None
+        if not isinstance(id, str):
+            raise Untellable(f"a bulk request with an id that is no text, in the action {op[:20]!r}")
+        if index not in ledger.names.all or not id.isascii() and not length_of(id):
+            self._left_out_of(ids_of(id), f"it was written by a bulk request to {index[:200]}")
             return None
         if index in ledger.names.routed:
             words = {"routing": index, **words}
@@ -228,18 +249,16 @@ class Asking:
         for place in places if len(places) <= min(room, MOST_PLACES) else ():
             words = {**route.words, **place} if isinstance(place, dict) else {}
             index, id = words.get("_index", route.room), words.get("_id")
-            is_plain = OF_A_PLACE.issuperset(words) and words.get("realtime", True) in (True, "true")
-            if not isinstance(id, str) or not id or index not in names.all or not is_plain:
+            if not isinstance(id, str) or not id or index not in names.all or not asks_for_latest(words, OF_A_PLACE):
                 yield None
             else:
                 yield Part(id, "get", {"routing": index, **words} if index in names.routed else words)
 
 
-def is_harmless(route: Route, content: Optional[bytes]) -> bool:
-    """Whether neither the body nor the query of a request says one of the words that count."""
-    texts = texts_of(content) if content is not None and len(content) <= MOST_LOOKED_AT else None
-    if texts is None:
-        return False
-    texts.update(route.words, route.words.values())
-    together = "\n".join(texts)
-    return not route.whole & texts and not any(it in together for it in route.told)
+def ids_of(id: str) -> Sequence[str]:
+    """The ids that servers may make of one. Half of a surrogate pair has no bytes of its own: they write another character for it."""
+    if length_of(id) or not id:
+        return (id,)
+    return [HALF.sub(it, id) for it in ("\ufffd", "?")]
+
+

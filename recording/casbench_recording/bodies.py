@@ -1,7 +1,7 @@
 """What the JSON bodies of requests say, however it is spelled: with escapes, with keys that come twice, with numbers in the place of texts."""
 
 import json
-from typing import Any, Dict, List, Optional, Set, Tuple
+from typing import Any, Dict, List, Optional, Tuple
 
 MOST_READ = 2 * 1024 * 1024
 """The most bytes of a body that are read at once. The source of a longer one is none that is known."""
@@ -19,11 +19,34 @@ def only_once(pairs: List[Tuple[str, Any]]) -> Dict[str, Any]:
     return members
 
 
+LONGEST_NUMBER = 4300
+"""The most digits of a whole number that is read: the time that takes grows with their square. Later releases of Python have this limit."""
+
+
+def whole_number(digits: str) -> int:
+    """The number that these digits spell. Raises ValueError if they are too many."""
+    if len(digits) > LONGEST_NUMBER:
+        raise ValueError("a whole number has too many digits")
+    return int(digits)
+
+
+read_short = json.JSONDecoder().decode
+"""The value of a JSON text that is no longer than a number may be."""
+
+long_reader = json.JSONDecoder(parse_int=whole_number)
+"""Reads JSON texts of any length. A number takes it longer."""
+
+
+def read_json(text: str) -> Any:
+    """The value of a JSON text. Raises ValueError if it is none, or has a number with too many digits."""
+    return read_short(text) if len(text) <= LONGEST_NUMBER else long_reader.decode(text)
+
+
 read_action = json.JSONDecoder(object_pairs_hook=only_once, parse_int=str).decode
 """The value of the action of a bulk request's item. A server takes a whole number for the text by which it is spelled: -0 isn't 0."""
 
-read_spelled = json.JSONDecoder(object_pairs_hook=list, parse_int=str, parse_float=str, parse_constant=str).decode
-"""The value of a JSON text, in which an object is a list of its members and a number the text by which it is spelled."""
+read_spelled = json.JSONDecoder(object_pairs_hook=only_once, parse_int=str, parse_float=str, parse_constant=str).decode
+"""The value of a JSON text in which no key comes twice, and a number is the text by which it is spelled."""
 
 
 def action_of(line: bytes) -> Optional[Dict[str, Any]]:
@@ -33,19 +56,3 @@ def action_of(line: bytes) -> Optional[Dict[str, Any]]:
     except (ValueError, RecursionError):
         return None
     return action if isinstance(action, dict) else None
-
-
-def texts_of(content: Optional[bytes]) -> Optional[Set[str]]:
-    """All keys and all texts and numbers of a body; None if it isn't JSON in UTF-8, and so may be read as something else."""
-    try:
-        waiting = [read_spelled(content.decode("utf-8"))] if content is not None else []
-    except (ValueError, RecursionError):
-        return None
-    texts: Set[str] = set()
-    while waiting:
-        value = waiting.pop()
-        if isinstance(value, str):
-            texts.add(value)
-        elif isinstance(value, (list, tuple)):
-            waiting += value
-    return texts if content is not None else None

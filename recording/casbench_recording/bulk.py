@@ -3,11 +3,10 @@
 A bulk request may be long. Nothing of it is kept but the item at hand.
 """
 
-import json
 import re
 from typing import Any, Dict, Iterator, List, NamedTuple, Optional
 
-from .bodies import action_of
+from .bodies import action_of, long_reader
 
 LONGEST_ACTION = 65_536
 """The most bytes of the line of an action."""
@@ -104,7 +103,7 @@ LONGEST_ITEM = 65_536
 WINDOW = 4 * LONGEST_ITEM
 """The most letters of a long answer that are looked at together, so of which an item that isn't read takes memory."""
 
-read_next = json.JSONDecoder().raw_decode
+read_next = long_reader.raw_decode
 
 
 def items_of_long(content: bytes) -> Iterator[Any]:

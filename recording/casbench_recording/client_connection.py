@@ -34,7 +34,6 @@ class ClientConnection:
 
     stream: Stream
     exchange: Optional[Exchange]
-    is_tunnel: bool
     is_working: bool
     is_cluster_full: bool
     active_at: float
@@ -50,7 +49,7 @@ class ClientConnection:
         self.exchange = None
         self.cluster: Optional[ClusterSide] = None
         self.connecting: Optional[Connecting] = None
-        self.is_connected = self.is_tunnel = False
+        self.is_connected = False
         # whether something is done for the request at hand before it can go on
         self.is_working = False
         self.is_cluster_full = self.is_paused = False
@@ -105,7 +104,7 @@ class ClientConnection:
 
     def ended(self) -> None:
         """Hears that the client sends no more. The answer to what it sent is still passed on."""
-        if self.is_tunnel or not self.data and self.exchange is None:
+        if not self.data and self.exchange is None:
             self.close()
         elif self.is_connected:
             self.go_on()
@@ -179,7 +178,7 @@ class ClientConnection:
 
     def waits_for_cluster(self) -> bool:
         """Whether it is for the cluster to do something, and the client is there to see it."""
-        is_asked = self.is_working or self.exchange is not None and self.exchange.is_sent and not self.is_tunnel
+        is_asked = self.is_working or self.exchange is not None and self.exchange.is_sent
         return is_asked and not self.stream.waiting and not self.stream.is_at_end
 
     def pause_writing(self) -> None:

@@ -2,12 +2,13 @@
 
 from typing import Iterator, Optional
 
-from .asked import AskedInPieces, Making
+from .asked import AskedInPieces, Making, Who
 from .bodies import MOST_READ
 from .client_connection import ClientConnection
 from .exchange import Coming, ComingInPieces, Exchange
 from .finding import Finding
-from .http1 import LONGEST_REMEMBERED, decoded, head_end, read_request, remembered_request, without_empty_lines
+from .http1 import LONGEST_REMEMBERED, Request, decoded, head_end, passed_head, read_request, remembered_request, without_empty_lines
+from .judge import Passed
 from .routes import BULK, CALL, NODES, PASS, READS, SWEEP, Kind
 
 FEW_PARTS = 16
@@ -27,11 +28,6 @@ class ClientSide(ClientConnection):
 
     def has_step(self) -> bool:
         """Does the next step with what the client sent; tells whether there may be another one."""
-        assert self.cluster is not None
-        if self.is_tunnel:
-            self.cluster.stream.write(self.data)
-            self.data = b""
-            return False
         if self.is_working:
             return False
         exchange = self.exchange
@@ -61,8 +57,11 @@ class ClientSide(ClientConnection):
         if not end:
             return False
         request = (remembered_request if end <= LONGEST_REMEMBERED else read_request)(data[:end])
+        if request.fields.offers_upgrade or self.node.sent_host:
+            head, rest = passed_head(data[:end], self.node.sent_host), data[end:]
+            data, end = head + rest, len(head)
         judge, length = self.proxy.judge, request.length
-        route = judge.route(request.method, request.target)
+        route = judge.route(request.method, request.target, self.node.paths)
         exchange = self.exchange = Exchange(request, route)
         if end > LONGEST_REMEMBERED:
             exchange.weight = HEADS * end
@@ -77,11 +76,15 @@ class ClientSide(ClientConnection):
             return False
         if is_bulk:
             exchange.coming = ComingInPieces(data[:end], request.body(), request.fields.encoding)
-            exchange.asked = judge.ask_in_pieces(route, request.fields.who or self.address)
+            exchange.asked = judge.ask_in_pieces(route, self.who(request))
         else:
             exchange.coming = Coming(data[:end], request.body(), route is not PASS)
         self.data = data[end:]
         return True
+
+    def who(self, request: Request) -> Who:
+        """Who asks, by a request's own word or by the address, and the node."""
+        return Who(request.fields.who or self.address, self.node.name)
 
     def ask_and_send(self, exchange: Exchange, content: Optional[bytes], data: bytes, is_sent: bool, has_turn: bool = False) -> None:
         """Has the calls of a request written, and passes it on. The content is None where too much of it came to be read."""
@@ -99,7 +102,7 @@ class ClientSide(ClientConnection):
                 proxy.warn_of_nodes(request)
             if content and (request.fields.encoding or len(content) > MOST_READ):
                 content = decoded(content, request.fields.encoding, MOST_READ)
-            asked = exchange.asked = proxy.judge.ask(route, request.method, content, request.fields.who or self.address)
+            asked = exchange.asked = proxy.judge.ask(route, request.method, content, self.who(request))
             if asked is not None and len(asked.parts) > FEW_PARTS:
                 self.account()
         self.send(exchange, data, is_sent)
@@ -124,7 +127,7 @@ class ClientSide(ClientConnection):
             self.ask_and_send(exchange, content, data, is_sent, True)
         else:
             plain = decoded(content, request.fields.encoding, MOST_READ) if content else content
-            making = exchange.asked = Making(route, request.method, plain, request.fields.who or self.address)
+            making = exchange.asked = Making(route, request.method, plain, self.who(request))
             finding.makes(making, lambda: self.lose(exchange))
             self.send(exchange, data, is_sent)
         if not self.is_working:
@@ -142,7 +145,7 @@ class ClientSide(ClientConnection):
         exchange.is_sent = is_sent
         finding = self.proxy.finding
         if finding is not None and exchange.request.method not in READS:
-            finding.passes(exchange, (exchange.request.method, exchange.request.target, exchange.route))
+            finding.passes(exchange, Passed(exchange.request.method, exchange.request.target, self.node.paths, exchange.route))
         self.cluster.stream.write(data)
 
     def take_piece(self, exchange: Exchange, coming: Coming) -> None:

@@ -4,14 +4,15 @@ import argparse
 import base64
 import contextlib
 import http.client
+import os
 import socket
 import ssl
 import threading
 import time
 import urllib.parse
-from typing import Any, Callable, Dict, Iterator, Mapping, NamedTuple, Optional, Union
+from typing import Any, Callable, Dict, Iterable, Iterator, Mapping, NamedTuple, Optional, Union
 
-from .history import NoOutcome, text_of, value_of
+from .history import LONGEST_CLIENT, NoOutcome, text_of, value_of
 
 Url = urllib.parse.SplitResult
 
@@ -164,12 +165,18 @@ def body_of(response: http.client.HTTPResponse) -> bytes:
 def connection_to(url: str, timeout: float = 10.0) -> Connection:
     """A connection to this address, for a harness: it waits so many seconds for each word of an answer, and tells nobody who asks."""
     address = url_of(url)
-    return Connection(Cluster(address, timeout, {}, trust_of(address, None)))
+    return Connection(Cluster(address, timeout, {}, trust_of(address)))
 
 
 def port_of(url: Url) -> int:
     """The port of the address."""
     return url.port or (443 if url.scheme == "https" else 80)
+
+
+def name_of(url: Url) -> str:
+    """The host and the port of the address, as a call's line names a node."""
+    host = f"[{url.hostname}]" if ":" in str(url.hostname) else url.hostname
+    return f"{host}:{port_of(url)}"[:LONGEST_CLIENT]
 
 
 def url_of(text: str) -> Url:
@@ -208,17 +215,49 @@ def credentials_of(environment: Mapping[str, str]) -> Dict[str, str]:
     return {name.strip(): value.strip()}
 
 
-def trust_of(url: Url, ca_file: Optional[str]) -> Optional[ssl.SSLContext]:
-    """Whom to believe that the cluster is the cluster: its certificate and its name are verified, always.
+class Certificates(NamedTuple):
+    """Files of certificates: of whom to trust, and of who asks, with its key if that isn't in the same file."""
 
-    That is by the CA file alone where there is one, and else by those whom the system trusts.
+    trusted: Optional[str] = None
+    own: Optional[str] = None
+    key: Optional[str] = None
+
+
+def trust_of(url: Url, files: Certificates = Certificates()) -> Optional[ssl.SSLContext]:
+    """Whom to believe that the cluster is the cluster, and by which certificate the cluster knows who asks, if it has one.
+
+    The cluster's certificate and its name are verified, always: by the file alone if there is one, and else by those whom the system trusts.
     """
     if url.scheme != "https":
         return None
     try:
-        return ssl.create_default_context(cafile=ca_file)
+        trust = ssl.create_default_context(cafile=files.trusted)
     except OSError as fault:
-        raise ClusterError(f"{ca_file} holds no certificates: {fault}") from fault
+        raise ClusterError(f"{files.trusted} holds no certificates: {fault}") from fault
+    if files.own is not None:
+        try:
+            # (an empty password is none; without one OpenSSL would ask for it on the terminal)
+            trust.load_cert_chain(files.own, files.key, os.environ.get("OPENSEARCH_KEY_PASSWORD", ""))
+        except OSError as fault:
+            raise ClusterError(f"{files.own} holds no certificate with its key, or OPENSEARCH_KEY_PASSWORD isn't its password: {fault}") from fault
+    return trust
+
+
+def add_certificate_options(add: Callable[..., object]) -> None:
+    """Adds the options that name files of certificates."""
+    add("--ca-file", metavar="FILE", help="the certificates of who is trusted to vouch for the cluster")
+    add("--client-cert", metavar="FILE", help="the certificate by which the cluster knows who asks")
+    add("--client-key", metavar="FILE", help="its key, unless that is in the same file")
+
+
+def certificates_of(parser: argparse.ArgumentParser, setting: argparse.Namespace, urls: Iterable[Url]) -> Certificates:
+    """The files that these options name. They are for addresses that begin with https."""
+    given = [name for name in ("--ca-file", "--client-cert", "--client-key") if getattr(setting, name[2:].replace("-", "_")) is not None]
+    if given and all(it.scheme != "https" for it in urls):
+        parser.error(f"{given[0]} is for an address that begins with https")
+    if setting.client_key is not None and setting.client_cert is None:
+        parser.error("--client-key is for a certificate, which --client-cert names")
+    return Certificates(setting.ca_file, setting.client_cert, setting.client_key)
 
 
 def number_from(least: float, kind: Callable[[str], float] = int) -> Callable[[str], float]:

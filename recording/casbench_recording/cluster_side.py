@@ -10,11 +10,14 @@ from .exchange import Exchange
 from .http1 import LONGEST_REMEMBERED, BadMessage, Body, Response, decoded, head_end, read_response, remembered_response
 from .loop import Stream
 from .refusal import refusal
-from .routes import BULK, READS
+from .routes import BULK, READS, Kind
 from .tls import TlsStream
 
 if TYPE_CHECKING:
     from .client_connection import ClientConnection
+
+OF_OTHERS = (Kind.PASS, BULK, Kind.LOOK)
+"""Requests that aren't for the index, by the names of it that are known, unless their bodies say so."""
 
 MOST_OF_ITEMS = 32 * 1024 * 1024
 """The most bytes of an answer to a bulk request that are held back to be read, some of its items at a time."""
@@ -52,10 +55,6 @@ class ClusterSide:
         """Does the next step with what the cluster sent; tells whether there may be another one."""
         client = self.client
         exchange = client.exchange
-        if client.is_tunnel:
-            client.stream.write(self.data)
-            self.data = b""
-            return False
         if exchange is None or exchange.is_answered:
             self.fail("an answer came to no request")
             return False
@@ -91,11 +90,8 @@ class ClusterSide:
     def go_on(self, exchange: Exchange, response: Response, head: bytes) -> None:
         """Passes on by itself what goes before an answer."""
         if response.status == 101:
-            self.client.proxy.judge.end("a client and the cluster went on in another protocol")
-            self.client.is_tunnel = True
-            self.client.stream.write(head)
-            self.client.go_on()
-        elif not exchange.was_continued or response.status != 100:
+            raise BadMessage("it goes on in another protocol, which nobody asked for")
+        if not exchange.was_continued or response.status != 100:
             self.client.stream.write(head)
 
     def take_piece(self, exchange: Exchange, response: Response, body: Body) -> None:
@@ -165,7 +161,7 @@ class ClusterSide:
             finding.has_made(proxy.judge.made(making, response.status, content, response.fields.length))
             self.found(exchange)
 
-        finding.answered(exchange, go_on)
+        finding.answered(exchange, go_on, True)
 
     def look(self, exchange: Exchange) -> None:
         """Has the index looked for, if it wasn't there and the request may have made it; then passes the answer on."""
@@ -175,7 +171,7 @@ class ClusterSide:
             return
         self.client.is_working = True
         self.stream.pause_reading()
-        finding.answered(exchange, lambda: self.found(exchange))
+        finding.answered(exchange, lambda: self.found(exchange), exchange.route.kind not in OF_OTHERS)
 
     def found(self, exchange: Exchange) -> None:
         """Goes on after the index was looked for."""
@@ -228,7 +224,7 @@ class ClusterSide:
         if exchange is not None and exchange.body is not None and exchange.body.at_close() and self.stream.is_at_end:
             assert exchange.response is not None
             self.finish(exchange, exchange.response, exchange.body.content())
-        elif exchange is not None and not client.is_tunnel:
+        elif exchange is not None:
             self.fail("the cluster closed the connection and gave no whole answer")
         else:
             client.close()

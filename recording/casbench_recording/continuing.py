@@ -10,10 +10,10 @@ import argparse
 import contextlib
 import os
 import time
-from typing import Callable, Dict, List, Optional, Sequence, Tuple
+from typing import Callable, Dict, List, Optional, Sequence, Tuple, Union
 
-from .history import MOST_EVENTS, Call, CallError, CallWriter, Ended, Ending, History, HistoryError, Operation, Reply, members_of_call
-from .past import UNKNOWN, Beginning, Past, told_by
+from .history import MOST_EVENTS, Call, CallError, CallWriter, Ended, Ending, History, HistoryError, Loss, Operation, Reply, members_of_call
+from .past import Beginning, Past, told_by_ending
 from .reading import STRICT, Reading
 
 PART = 400_000
@@ -176,6 +176,12 @@ class Continuing(CallWriter):
         except OSError as fault:
             raise HistoryError(f"{folder}: {fault.strerror}") from fault
 
+    def judge_in(self, reading: Reading) -> None:
+        with self._lock:
+            self._reading = reading
+            self._most_events = min(self._most_events, reading.most_events)
+            self._most_calls = min(self._most_calls, self._most_events // 2)
+
     @property
     def room(self) -> int:
         """How many calls it takes at once."""
@@ -225,6 +231,21 @@ class Continuing(CallWriter):
         if document.is_left or document.place() is None and not self._can_move(document):
             raise TooManyLost(operation.id)
         return document
+
+    def leave(self, ids: Sequence[str]) -> None:
+        """Forgets documents that are called no more. Their calls that are open may still end."""
+        with self._lock:
+            for it in ids:
+                self._documents.pop(it, None)
+
+    def forgets(self, id: str) -> bool:
+        """Forgets a document if nothing is known of it that another part would state; tells whether it did."""
+        with self._lock:
+            document = self._documents.get(id)
+            is_blank = document is None or document.past.is_blank
+            if is_blank:
+                self._documents.pop(id, None)
+            return is_blank
 
     def _can_move(self, document: Document) -> bool:
         """Whether another part can begin with the document. If it can't the document is recorded no longer."""
@@ -305,30 +326,30 @@ class Continuing(CallWriter):
                 own.history.reply(own, status, text)
             self._end(whole, (status, text))
 
-    def lose_one(self, call: Call) -> None:
+    def lose_one(self, call: Call, loss: Loss = Loss.UNKNOWN) -> None:
         with self._lock:
             whole = self._still_open(call)
             own = whole.recorded
             if own is not None:
-                own.lost()
-            self._end(whole, None)
+                own.history.lose_one(own, loss)
+            self._end(whole, loss)
 
     def end_all(self, endings: Sequence[Ending]) -> None:
         with self._lock:
             by_part: Dict[Part, List[Ending]] = {}
-            ending: Dict[WholeCall, Optional[Reply]] = {}
-            for it, reply in endings:
+            ends: Dict[WholeCall, Union[Reply, Loss]] = {}
+            for it, ending in endings:
                 if it.number in self._open:
                     # (of two endings of a call the first one counts)
-                    ending.setdefault(self._open[it.number], reply)
-            for whole, reply in ending.items():
+                    ends.setdefault(self._open[it.number], ending or Loss.UNKNOWN)
+            for whole, ending in ends.items():
                 own = whole.recorded
                 if own is not None:
-                    by_part.setdefault(whole.part, []).append((own, reply))
+                    by_part.setdefault(whole.part, []).append((own, ending))
             for part, its in by_part.items():
                 part.history.end_all(its)
-            for whole, reply in ending.items():
-                self._end(whole, reply)
+            for whole, ending in ends.items():
+                self._end(whole, ending)
 
     def _still_open(self, call: Call) -> WholeCall:
         """The call, which is refused if it isn't open."""
@@ -338,12 +359,13 @@ class Continuing(CallWriter):
             raise CallError(f"call {call.number} has its ending already")
         return self._open[call.number]
 
-    def _end(self, call: WholeCall, reply: Optional[Tuple[int, Optional[str]]]) -> None:
+    def _end(self, call: WholeCall, ending: Union[Tuple[int, Optional[str]], Loss]) -> None:
         """Takes what became of a call, whose ending is written, if its part has one."""
         del self._open[call.number]
-        call.document.past.ended(call, told_by(call.operation, *reply) if reply is not None else UNKNOWN)
-        self.replies += reply is not None
-        self.lost += reply is None
+        call.document.past.ended(call, told_by_ending(call.operation, ending))
+        is_lost = isinstance(ending, Loss)
+        self.replies += not is_lost
+        self.lost += is_lost
         self._finish_if_done(call.part)
 
     # The end of parts

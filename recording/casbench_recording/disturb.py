@@ -20,7 +20,7 @@ import tempfile
 import threading
 import time
 from dataclasses import dataclass
-from typing import Callable, List, Optional, Tuple
+from typing import Callable, Dict, List, Optional, Tuple
 
 LONGEST_COMMAND = 60.0
 """For how many seconds a command is waited for."""
@@ -103,8 +103,8 @@ class Disturber:
         self._note = note
         self._report = report
         self.has_failed = False
-        # what was begun and not ended yet
-        self._begun: List[Disturbance] = []
+        # what was begun and not ended yet, by what it is and not by what it says
+        self._begun: Dict[int, Disturbance] = {}
         self._is_over = threading.Event()
         self._thread = threading.Thread(target=self._follow, daemon=True)
 
@@ -117,8 +117,8 @@ class Disturber:
         self._is_over.set()
         if self._thread.ident is not None:
             self._thread.join()
-        while self._begun:
-            self._end(self._begun[0])
+        for it in list(self._begun.values()):
+            self._end(it)
 
     def _follow(self) -> None:
         """Does what is due, until the block ends or nothing is left to do."""
@@ -132,6 +132,8 @@ class Disturber:
                 return
             if not is_begin:
                 self._end(it)
+            if not is_begin or id(it) in self._begun:
+                # (what could not be ended isn't begun once more)
                 continue
             is_done = self._begin(it)
             if it.undo:
@@ -143,26 +145,33 @@ class Disturber:
         """Begins a disturbance; tells whether that could be done. What could not is not tried again."""
         self._note(f"begins: {it.begin}")
         if it.undo:
-            self._begun.append(it)
-        return self._run(it.begin, not it.undo)
+            self._begun[id(it)] = it
+        why = self._run(it.begin)
+        if not it.undo:
+            self._note(f"ended: {it.begin}")
+        self._report_fault(it.begin, why)
+        return not why
 
     def _end(self, it: Disturbance) -> None:
-        """Ends a disturbance."""
-        self._begun.remove(it)
-        self._run(it.undo, True)
+        """Ends a disturbance. If that fails it is tried again when the block ends."""
+        why = self._run(it.undo)
+        if not why:
+            del self._begun[id(it)]
+            self._note(f"ended: {it.undo}")
+        self._report_fault(it.undo, why)
 
-    def _run(self, command: str, is_end: bool) -> bool:
-        """Runs a command, which may end a disturbance; returns whether it succeeded. The next line carries what was done, and a
-        failure is reported after that."""
+    def _run(self, command: str) -> str:
+        """Runs a command; returns why it failed, or nothing. The next line carries a failure."""
         why = fault_of(command)
         if why:
             self.has_failed = True
             self._note(f"failed: {command}")
-        if is_end:
-            self._note(f"ended: {command}")
+        return why
+
+    def _report_fault(self, command: str, why: str) -> None:
+        """Reports a failure, if there was one, after all that the next line carries."""
         if why:
             self._report(f"the disturbance failed: {command}: {why}")
-        return not why
 
 
 def fault_of(command: str) -> str:

@@ -1,24 +1,21 @@
 """What a recorder that watches knows of documents: which it may judge, and the numbers that stand for their sources.
 
-A history tells a version by its pair and by a number `k`. Here `k` numbers the sources of a document: equal sources have
-one number, whatever the order of their keys.
+A history tells a version by its pair and by a number `k`. Here `k` is a digest of the source: equal sources have one
+number, whatever the order of their keys, and no source is remembered.
 """
 
 import functools
 import hashlib
 import json
 from enum import Enum
-from typing import Any, Dict, Optional
+from typing import Any, Dict, Optional, Tuple
 
-from .history import LONGEST_ID, Call, Pair, length_of
-from .past import Beginning
-
+from .bodies import read_json
+from .history import LONGEST_ID, Call, Operation, Pair, length_of
+from .past import Beginning, Version
 
 canonical = json.JSONEncoder(sort_keys=True, separators=(",", ":")).encode
 """The text of a source, which is the same for equal ones."""
-
-read_json = json.JSONDecoder().decode
-"""The value of a JSON text."""
 
 MOST_REMEMBERED = 8192
 """Of how many texts the digest is remembered."""
@@ -28,6 +25,16 @@ LONGEST_REMEMBERED = 2048
 
 UNKNOWN = 1
 """The number of all sources of a document that nobody can know; those of sources that are known are greater."""
+
+BYTES = 8
+"""Of how many bytes the number of a source is."""
+
+PAIRS_AT_REST, MOST_PAIRS = 8, 1000
+"""Of how many of the last versions the source is known by the pair at most: of a document none of whose calls is open, and of another. If
+there are more, half as many are kept."""
+
+NOTHING: Dict[Call, None] = {}
+"""The calls of a document that has none. Nothing is put into it."""
 
 
 class State(Enum):
@@ -47,94 +54,167 @@ UNSURE, NOT_JUDGED = State.UNSURE, State.NOT_JUDGED
 
 
 class Document:
-    """A document: its calls that are open, and the numbers of its sources."""
+    """A document: its calls that are open, the last versions, and which of its writes may have been performed unseen."""
 
-    __slots__ = ("id", "shard", "state", "open", "writes", "deletes", "_numbers", "_last", "_written", "_pending")
+    __slots__ = ("id", "shard", "state", "open", "writes", "deletes", "_written", "_forgotten", "_unknown")
+    __slots__ += ("_turns", "_open_writes", "_doubtful", "_has_lost", "acknowledged")
 
     def __init__(self, id: str, shard: int, state: State) -> None:
         self.id = id
         self.shard = shard
         self.state = state
         # (in their order)
-        self.open: Dict[Call, None] = {}
+        self.open: Dict[Call, None] = NOTHING
         # how many calls were made that may write the document, and that may delete it
         self.writes = self.deletes = 0
-        self._numbers: Dict[bytes, int] = {}
-        # the greatest number that a source was given
-        self._last = UNKNOWN
-        # the number that each pair was given to
-        self._written: Dict[Pair, int] = {}
-        # how many writes of a source that nobody can know have no pair that is known
-        self._pending = 0
+        # the last versions that a write was answered with, and the greatest pair of one that was forgotten, of a source that nobody knows
+        self._written: Tuple[Version, ...] = ()
+        self._forgotten: Optional[Pair] = None
+        # how many writes of a source that nobody can know were called and may have been performed, each also twice, under a pair that no
+        # answer shows
+        self._unknown = 0
+        # how many writes were called, and how many of them are open; up to which of them one was answered that may have been performed
+        # unseen, 0 if there is none; and whether one is lost that may be performed at any time
+        self._turns = self._open_writes = self._doubtful = 0
+        self._has_lost = False
+        # the greatest pair that a write was acknowledged with
+        self.acknowledged: Optional[Pair] = None
 
-    def number_of(self, digest: Optional[bytes]) -> Optional[int]:
-        """The number of the sources with a digest, or None where there is none."""
-        if digest is None:
-            return None
-        number = self._numbers.get(digest)
-        if number is None:
-            self._last += 1
-            number = self._numbers[digest] = self._last
-        return number
+    # The turns of writes
 
-    def number_to_write(self, digest: Optional[bytes]) -> int:
+    @property
+    def was_written(self) -> bool:
+        """Whether a write of it was called."""
+        return self._turns > 0
+
+    @property
+    def is_settled(self) -> bool:
+        """Whether each write that was called is over, and its outcome known."""
+        return not (self._open_writes or self._has_lost or self._doubtful)
+
+    def begins_write(self) -> int:
+        """Counts a write that is called now; its turn."""
+        self._turns += 1
+        self._open_writes += 1
+        return self._turns
+
+    def ends_write(self) -> None:
+        """Counts a write that ends now."""
+        self._open_writes -= 1
+
+    def is_last(self, turn: int) -> bool:
+        """Whether no write was called after the one of this turn, and each before it was seen."""
+        return turn == self._turns and self.state is State.JUDGED
+
+    def acknowledges(self, turn: int, pair: Pair) -> None:
+        """Notes that a write was acknowledged with this pair. Those that were answered before it was called take none behind it."""
+        if turn > self._doubtful:
+            self._doubtful = 0
+        if self.acknowledged is None or pair > self.acknowledged:
+            self.acknowledged = pair
+
+    def doubts(self, operation: Operation, is_answered: bool) -> None:
+        """Notes that a write may have been performed unseen. Without an answer, and without a condition, it may be at any later time."""
+        if is_answered or operation.condition is not None:
+            self._doubtful = self._turns
+        else:
+            self._has_lost = True
+
+    # The calls that are open
+
+    def opens(self, call: Call) -> None:
+        """Keeps a call whose line is written."""
+        if self.open:
+            self.open[call] = None
+        else:
+            self.open = {call: None}
+
+    def closes(self, call: Call) -> None:
+        """Forgets a call that ends. At rest little is kept."""
+        if self.open:
+            self.open.pop(call, None)
+        if not self.open:
+            self.open = NOTHING
+            if len(self._written) > PAIRS_AT_REST:
+                self._forget(PAIRS_AT_REST // 2)
+
+    # The numbers of sources
+
+    def number_to_write(self, digest: Optional[int]) -> int:
         """The number of a source that is written now. Of sources that nobody can know it is one for all of them."""
-        number = self.number_of(digest)
-        if number is None:
-            self._pending += 1
+        if digest is None:
+            self._unknown += 1
             return UNKNOWN
-        return number
+        return int(digest)
 
     def written(self, pair: Pair, number: int) -> None:
         """Notes that a write was answered with this pair."""
-        self._written[pair] = number
-        if number == UNKNOWN:
-            self._pending -= 1
+        self._written = (*self._written, Version(pair, number))
+        if len(self._written) > MOST_PAIRS:
+            self._forget(MOST_PAIRS // 2)
 
-    def wrote_nothing(self, number: int) -> None:
-        """Notes that a write with this number was answered as one that changed nothing."""
-        if number == UNKNOWN:
-            self._pending -= 1
+    def _forget(self, count: int) -> None:
+        """Forgets the pairs of all but the greatest versions, so many of them."""
+        versions = sorted(self._written)
+        self._written = tuple(versions[-count:])
+        unknown = [it.pair for it in versions[:-count] if it.value == UNKNOWN]
+        if unknown and (self._forgotten is None or unknown[-1] > self._forgotten):
+            self._forgotten = unknown[-1]
 
-    def number_shown(self, pair: Pair, digest: Optional[bytes], is_whole: bool) -> Optional[int]:
+    def wrote_nothing(self, operation: Operation) -> None:
+        """Notes that a write was not performed."""
+        if operation.value == UNKNOWN:
+            self._unknown -= 1
+        if operation.op == "delete":
+            self.deletes -= 1
+        else:
+            self.writes -= 1
+
+    def number_shown(self, pair: Pair, digest: Optional[int], is_whole: bool) -> Optional[int]:
         """The number that a get shows which found this pair; None where it can't be told.
 
-        Where a write of unknown source may have given the pair it is that one's, whatever is shown. Where the source isn't
-        shown as a whole it is that of the write which the pair was given to.
+        If a write of unknown source was answered with the pair it is that one's, whatever is shown; if one may have taken it unseen it
+        can't be told. If the source isn't shown as a whole it is that of the write which was answered with the pair.
         """
-        number = self._written.get(pair)
+        number: Optional[int] = None
+        for version in reversed(self._written):
+            if version.pair == pair:
+                number = version.value
+                break
         if number is not None and (number == UNKNOWN or not is_whole):
             return number
-        if not is_whole or number is None and self._pending:
+        is_forgotten = number is None and self._forgotten is not None and pair <= self._forgotten
+        if not is_whole or digest is None or is_forgotten or number is None and self._unknown:
             return None
-        return self.number_of(digest)
+        return int(digest)
 
     def goes_on(self, beginning: Beginning) -> None:
-        """Forgets, as the document begins another part, the numbers and pairs that nothing in that part has.
+        """Forgets, as the document begins another part, the pairs that nothing in that part has.
 
-        It has what it begins with, and the calls that are open. A source that is forgotten has another number when it comes again.
+        It has what it begins with, and the calls that are open.
         """
         version, writes = beginning.version, [*beginning.lost, *[it.operation for it in self.open]]
-        used = {it.value for it in writes} | ({version.value} if version is not None else set())
-        self._numbers = {digest: number for digest, number in self._numbers.items() if number in used}
-        self._written = {version.pair: version.value} if version is not None and version.value is not None else {}
-        # (a write that is open, and carried over too, counts twice: then a version that no answer told is lost, and not guessed)
-        self._pending = sum(it.value == UNKNOWN for it in writes)
+        self._written = (version,) if version is not None and version.value is not None else ()
+        self._forgotten = None
+        # (a write that is open, and carried over too, counts twice: then a get of a version that no answer gave is lost, and not guessed)
+        self._unknown = sum(it.value == UNKNOWN for it in writes)
 
 
-NOT_LOOKED_AT = Document("", 0, NOT_JUDGED)
-"""Stands for each document that is judged no longer."""
+class Digest(int):
+    """A digest of a source, which no JSON text has in the place of one."""
 
 
-def digest_of(source: Any) -> Optional[bytes]:
-    """What equal sources have in common, and others don't; None of a source that is nested too deep to be compared."""
+def digest_of(source: Any) -> Optional[Digest]:
+    """The number that equal sources have in common, and others don't, but for one pair of 2 to the power of 64; None of a source that is
+    nested too deep to be compared."""
     try:
-        return hashlib.blake2b(canonical(source).encode(), digest_size=16).digest()
+        digest = hashlib.blake2b(canonical(source).encode(), digest_size=BYTES).digest()
     except RecursionError:
         return None
+    return Digest(max(int.from_bytes(digest, "big"), UNKNOWN + 1))
 
 
-def digest_of_object(text: Optional[bytes]) -> Optional[bytes]:
+def digest_of_object(text: Optional[bytes]) -> Optional[Digest]:
     """The digest of the object that a text is, or None where it is none that can be read and compared."""
     source = object_of(text)
     return digest_of(source) if source is not None else None
@@ -144,7 +224,7 @@ digest_of_short = functools.lru_cache(maxsize=MOST_REMEMBERED)(digest_of_object)
 """The same, remembered."""
 
 
-def digest_of_text(text: Optional[bytes]) -> Optional[bytes]:
+def digest_of_text(text: Optional[bytes]) -> Optional[Digest]:
     """The same, remembered where the text is short: what is written is read again, mostly byte for byte."""
     return digest_of_short(text) if text is not None and len(text) <= LONGEST_REMEMBERED else digest_of_object(text)
 

@@ -8,14 +8,14 @@ that isn't known yet, so that is remembered.
 """
 
 import threading
-from typing import Dict, List, Optional, Union
+from typing import Dict, List, NamedTuple, Optional, Set, Union
 
 from .asked import Making
 from .cluster import ClusterError
 from .inspection import SECONDS, Inspector, Shape
-from .judge import Judge, Passed
+from .judge import JUDGED_BY_BODY, Judge, Passed
 from .loop import Loop
-from .routes import BULK, Route
+from .routes import BULK, Kind, Route
 from .turns import GoOn, Turns
 
 MOST_GONE = 1000
@@ -29,6 +29,17 @@ PACKED = (b"\x1f\x8b", b"\x78")
 
 PATIENCE = SECONDS + 2.0
 """For how many seconds an answer of the cluster is waited for."""
+
+MOST_FOR_OTHERS = 0.5
+"""For how many seconds those wait for it, at most, whose requests are for another index. (An application that uses a name of the index that
+isn't known yet goes on when the index was looked at, if the cluster answers as usual.)"""
+
+
+class Waiting(NamedTuple):
+    """Who waits for the answer to a question, and whether for as long as it takes."""
+
+    go_on: GoOn
+    is_for_index: bool
 
 
 class Finding:
@@ -46,8 +57,10 @@ class Finding:
         self._gone: List[Passed] = []
         self._has_forgotten = False
         # who waits for the answer to the question at hand, and who for the next one's
-        self._waiting: List[GoOn] = []
-        self._waiting_next: List[GoOn] = []
+        self._waiting: List[Waiting] = []
+        self._waiting_next: List[Waiting] = []
+        # whether the question has to be asked once more
+        self._is_due = False
         self._asked_at: Optional[float] = None
         self.turns = Turns(loop)
         # the request that may make the index, since when it is out, and what gives it up
@@ -56,6 +69,8 @@ class Finding:
         self._give_up: GoOn = turn_ended
         # how many writes others may have made of documents that aren't judged
         self._unknown = 0
+        # the names by which other writes went that were answered, which may be names of the index; None if they can't be told
+        self._names: Optional[Set[str]] = set()
         loop.ticks[self._tick] = None
 
     @property
@@ -89,14 +104,34 @@ class Finding:
         self._making = None
         self.turns.end()
 
-    def answered(self, exchange: object, go_on: GoOn) -> None:
-        """Heeds that a write was answered, and looks whether the index is there now; then it goes on."""
+    def answered(self, exchange: object, go_on: GoOn, is_for_index: bool) -> None:
+        """Heeds that a write was answered, and looks whether the index is there now; then it goes on. If the write isn't for the index, by
+        the names that are known, it doesn't wait long."""
         passed = self._open.pop(exchange, None)
+        if passed is not None:
+            self._remember(passed)
         if passed is not None and self._asked_at is not None:
             self._meanwhile.append(passed)
-        self._waiting_next.append(go_on)
+        self._waiting_next.append(Waiting(go_on, is_for_index))
+        self._is_due = True
         if self._asked_at is None:
             self._look()
+        else:
+            self._release_others(self._loop.now)
+
+    def _remember(self, passed: Passed) -> None:
+        """Remembers by which name a write went that isn't for the index by the names that are known."""
+        if self._names is not None and passed.route.kind is Kind.PASS:
+            self._names.add(passed.name)
+        if passed.route.kind in JUDGED_BY_BODY or len(self._names or ()) > MOST_GONE or len(passed.target) > LONGEST_GONE:
+            self._names = None
+
+    def _writes_of(self, shape: Shape) -> int:
+        """How many changes others may have made, none of a document that is judged; 0 if they may have made more, by another name."""
+        has_more_names = len(shape.names.all) > 1
+        if has_more_names and (self._names is None or any(shape.names.may_be_among(it) for it in self._names)):
+            return 0
+        return self._unknown + (self._making.writes if self._making is not None else 0)
 
     def never_answered(self, exchange: object) -> None:
         """Heeds that a write will never be answered, if it was passed on. It may be performed at any time."""
@@ -111,9 +146,10 @@ class Finding:
     def _look(self) -> None:
         """Has the cluster asked, for all who wait, or has them go on if there is nothing to ask."""
         self._waiting, self._waiting_next = self._waiting_next, []
+        is_due, self._is_due = self._is_due, False
         if self.is_over:
             self._go_on()
-        elif self._waiting:
+        elif is_due:
             self._asked_at = self._loop.now
             threading.Thread(target=self._ask, daemon=True).start()
 
@@ -138,8 +174,7 @@ class Finding:
         elif told is not None and self._has_forgotten:
             self._judge.end("more requests than are remembered were never answered, and may write to the index")
         elif told is not None:
-            writes = self._unknown + (self._making.writes if self._making is not None else 0)
-            self._judge.found(told, [*self._open.values(), *self._meanwhile], self._gone, writes)
+            self._judge.found(told, [*self._open.values(), *self._meanwhile], self._gone, self._writes_of(told))
         self._meanwhile.clear()
         self._go_on()
         self._look()
@@ -148,10 +183,21 @@ class Finding:
         """Has those go on who wait."""
         waiting, self._waiting = self._waiting, []
         for it in waiting:
-            self._loop.soon(it)
+            self._loop.soon(it.go_on)
+
+    def _release_others(self, now: float) -> None:
+        """Has those go on who wait for another index, if the answer takes long."""
+        if self._asked_at is None or now < self._asked_at + MOST_FOR_OTHERS:
+            return
+        for waiting in (self._waiting, self._waiting_next):
+            for it in waiting:
+                if not it.is_for_index:
+                    self._loop.soon(it.go_on)
+            waiting[:] = [it for it in waiting if it.is_for_index]
 
     def _tick(self, now: float) -> None:
-        """Gives up where the answer takes too long."""
+        """Gives up where the answer takes too long; who doesn't need it goes on before."""
+        self._release_others(now)
         if self._asked_at is not None and now > self._asked_at + PATIENCE:
             self._told(ClusterError(f"the cluster didn't tell within {PATIENCE:.0f} seconds whether the index is there"))
         elif self._making is not None and now > self._made_since + PATIENCE:

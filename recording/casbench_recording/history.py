@@ -16,7 +16,11 @@ import os
 import re
 import threading
 import time
-from typing import Any, Callable, Dict, List, NamedTuple, Optional, Sequence, Set, Tuple, TypeVar, Union
+from enum import Enum
+from typing import TYPE_CHECKING, Any, Callable, Dict, List, NamedTuple, Optional, Sequence, Set, Tuple, TypeVar, Union
+
+if TYPE_CHECKING:
+    from .reading import Reading
 
 MOST_EVENTS = 1_048_576
 """The most events of a history. A call takes room for two, itself and its ending."""
@@ -31,7 +35,7 @@ LONGEST_ID = 512
 """The most bytes of a document's id."""
 
 LONGEST_CLIENT = 256
-"""The most bytes of what names a client."""
+"""The most bytes of what names a client, or a node."""
 
 LONGEST_NOTE = 1000
 """The most letters of a note."""
@@ -66,8 +70,20 @@ Body = Union[bytes, str, Dict[str, Any], List[Any], None]
 Reply = Tuple[int, str]
 """The status of a reply, and the JSON text of its body."""
 
-Ending = Tuple["Call", Optional[Reply]]
-"""A call that ends, with its reply, or None if it is lost."""
+
+class Loss(Enum):
+    """What is known of a call that ends without a reply."""
+
+    UNKNOWN = "it may have been performed, or may be at any later time"
+    OVER = "it may have been performed, and won't be any more: it was answered"
+    VOID = "it was not performed"
+
+
+Ending = Tuple["Call", Union[Reply, Loss, None]]
+"""A call that ends, with its reply, or what is known of it without one; None says as much as an unknown loss."""
+
+Rest = Union[str, Loss]
+"""What stands behind the number and the time of an ending: the rest of a reply's line, or what a lost call's line says."""
 
 
 class HistoryError(Exception):
@@ -95,7 +111,7 @@ class Pair(NamedTuple):
 
 class Operation(NamedTuple):
     """What a call asks: the operation, the document, the value of an index or a create, the condition of an index or a delete; and
-    who asks, if that is known."""
+    who asks, and through which node, if that is known."""
 
     op: str
     id: str
@@ -103,6 +119,7 @@ class Operation(NamedTuple):
     condition: Optional[Pair] = None
     shard: int = 0
     client: str = ""
+    node: str = ""
 
 
 class Call:
@@ -133,6 +150,10 @@ class Call:
     def lost(self) -> None:
         """Writes that the outcome will never be known."""
         self.history.lose_one(self)
+
+    def void(self) -> None:
+        """Writes that nothing was performed, at no attempt. It is for a refusal that proves this, and for no other fault."""
+        self.history.lose_one(self, Loss.VOID)
 
     # Replies by what they say, for a store that answers in other words than OpenSearch.
 
@@ -191,6 +212,10 @@ class Histories:
 
     def of_shard(self, shard: int) -> "CallWriter":
         """The history of a shard's calls."""
+        raise NotImplementedError
+
+    def judge_in(self, reading: "Reading") -> None:
+        """Has what is recorded be judged in a reading. It is called before the first call."""
         raise NotImplementedError
 
     def call(
@@ -273,8 +298,8 @@ class CallWriter(Histories):
         """Writes the line of a reply, with the JSON text of its body, or without one where that is None."""
         raise NotImplementedError
 
-    def lose_one(self, call: Call) -> None:
-        """Writes that the outcome of a call will never be known."""
+    def lose_one(self, call: Call, loss: Loss = Loss.UNKNOWN) -> None:
+        """Writes that a call ends without a reply, and whether it is known that it was not performed."""
         raise NotImplementedError
 
     def end_all(self, endings: Sequence[Ending]) -> None:
@@ -283,7 +308,7 @@ class CallWriter(Histories):
 
     def lose(self, calls: Sequence[Call]) -> None:
         """Writes those of the calls as lost that are open. At the end there is nothing to write."""
-        self.end_all([(it, None) for it in calls])
+        self.end_all([(it, Loss.UNKNOWN) for it in calls])
 
     def damage(self) -> Optional[str]:
         """What somebody else did to a file, or None if each is as it was written."""
@@ -371,30 +396,33 @@ class History(CallWriter):
             raise CallError(f"a status is a whole number up to 65535, and not {status!r}")
         self._end_one(call, rest_of_reply(status, text))
 
-    def lose_one(self, call: Call) -> None:
-        self._end_one(call, None)
+    def lose_one(self, call: Call, loss: Loss = Loss.UNKNOWN) -> None:
+        self._end_one(call, loss)
 
-    def _end_one(self, call: Call, rest: Optional[str]) -> None:
-        """Writes the line of an ending, for a call that is open: that of a reply with this rest, or as lost where it is None."""
+    def judge_in(self, reading: "Reading") -> None:
+        with self._lock:
+            self._most_calls = min(self._most_calls, reading.most_events // 2)
+
+    def _end_one(self, call: Call, rest: Rest) -> None:
+        """Writes the line of an ending, for a call that is open."""
         with self._lock:
             if self.has_ended:
                 raise Ended
             number = call.number
             if number not in self._open:
                 raise CallError(f"call {number} has its ending already")
-            if rest is None:
-                self._write(f'{LOST}{number},"t":{self._now()}}}\n')
+            self._write(line_of_ending(number, self._now(), rest))
+            if isinstance(rest, Loss):
                 self.lost += 1
             else:
-                self._write(f'{{"e":"reply","n":{number},"t":{self._now()}{rest}}}\n')
                 self.replies += 1
             self._open.remove(number)
 
     def end_all(self, endings: Sequence[Ending]) -> None:
-        rests: Dict[int, Optional[str]] = {}
-        for call, reply in endings:
+        rests: Dict[int, Rest] = {}
+        for call, ending in endings:
             # (of two endings of a call the first one counts)
-            rests.setdefault(call.number, rest_of_reply(*reply) if reply is not None else None)
+            rests.setdefault(call.number, rest_of_reply(*ending) if isinstance(ending, tuple) else ending or Loss.UNKNOWN)
         with self._lock:
             if not self.has_ended:
                 self._end_calls([it for it in rests.items() if it[0] in self._open])
@@ -434,22 +462,18 @@ class History(CallWriter):
         """Closes the file, once."""
         self.has_ended = True
         self._open.clear()
+        self._shards.clear()
         if not self._file.closed:
             self._file.close()
             if self.calls == 0:
                 with contextlib.suppress(FileNotFoundError):
                     os.remove(self.path)
 
-    def _end_calls(self, endings: Sequence[Tuple[int, Optional[str]]]) -> None:
-        """Writes the lines of endings together, each a number with the rest of a reply's line, or None if it is lost; counts them."""
-        now, lines, replies = self._now(), [], 0
-        for number, rest in endings:
-            if rest is None:
-                lines.append(f'{LOST}{number},"t":{now}}}\n')
-            else:
-                lines.append(f'{{"e":"reply","n":{number},"t":{now}{rest}}}\n')
-                replies += 1
-        self._write("".join(lines))
+    def _end_calls(self, endings: Sequence[Tuple[int, Rest]]) -> None:
+        """Writes the lines of endings together; counts them."""
+        now = self._now()
+        self._write("".join([line_of_ending(number, now, rest) for number, rest in endings]))
+        replies = sum(not isinstance(rest, Loss) for _, rest in endings)
         self._open.difference_update([number for number, _ in endings])
         self.replies += replies
         self.lost += len(endings) - replies
@@ -556,16 +580,16 @@ def member_of_id(id: str) -> str:
 
 
 @functools.lru_cache(maxsize=8192)
-def member_of_client(client: str) -> str:
-    """The same of who asks."""
-    if not isinstance(client, str) or not 1 <= length_of(client) <= LONGEST_CLIENT:
-        raise CallError(f"a client is a text of at most {LONGEST_CLIENT} bytes, and not {client!r}")
-    return f',"client":{compact(client)}'
+def member_of(key: str, name: str) -> str:
+    """The same of what names a client or a node."""
+    if not isinstance(name, str) or not 1 <= length_of(name) <= LONGEST_CLIENT:
+        raise CallError(f"a {key} is a text of at most {LONGEST_CLIENT} bytes, and not {name!r}")
+    return f',"{key}":{compact(name)}'
 
 
 def members_of_call(operation: Operation) -> str:
     """The members of a call's line behind its number, up to the line's end. Raises CallError where it can't be a call."""
-    op, id, value, condition, shard, client = operation
+    op, id, value, condition, shard, client, node = operation
     if op not in OPERATIONS:
         raise CallError(f"an operation is one of {', '.join(OPERATIONS)}, and not {op!r}")
     try:
@@ -584,8 +608,18 @@ def members_of_call(operation: Operation) -> str:
         term, seq = checked_pair(condition)
         members += f',"if_seq_no":{seq},"if_primary_term":{term}'
     if client:
-        members += member_of_client(client)
+        members += member_of("client", client)
+    if node:
+        members += member_of("node", node)
     return f'{members},"shard":{shard}}}' if shard else members + "}"
+
+
+def line_of_ending(number: int, now: int, rest: Rest) -> str:
+    """The line of an ending of the call with this number, at this time."""
+    if isinstance(rest, str):
+        return f'{{"e":"reply","n":{number},"t":{now}{rest}}}\n'
+    void = ',"void":true' if rest is Loss.VOID else ""
+    return f'{LOST}{number},"t":{now}{void}}}\n'
 
 
 def rest_of_reply(status: int, text: Optional[str]) -> str:

@@ -32,7 +32,7 @@ MOST_TRAILERS = 65_536
 TOKEN = rb"[!#$%&'*+.^_`|~0-9A-Za-z-]+"
 VALUE = rb"[\t -~\x80-\xff]*"
 
-FIELD = re.compile(rb"\r\n(content-length|transfer-encoding|content-encoding|expect|x-opaque-id):[ \t]*([^\r\n]*)", re.IGNORECASE)
+FIELD = re.compile(rb"\r\n(content-length|transfer-encoding|content-encoding|expect|x-opaque-id|upgrade|http2-settings):[ \t]*([^\r\n]*)", re.IGNORECASE)
 FIELDS = re.compile(rb"(?:\r\n" + TOKEN + rb":" + VALUE + rb")*\r\n\r\n")
 TRAILER = re.compile(TOKEN + rb":" + VALUE)
 CHUNK_LINE = re.compile(rb"([0-9a-fA-F]{1,15})[ \t]*(?:;" + VALUE + rb")?")
@@ -40,6 +40,9 @@ REQUEST_LINE = re.compile(rb"(" + TOKEN + rb") ([!-~\x80-\xff]+) HTTP/1\.([01])\
 STATUS_LINE = re.compile(rb"HTTP/1\.([01]) ([1-5][0-9][0-9])(?: [\t -~\x80-\xff]*)?\r\n")
 NUMBER = re.compile(rb"[0-9]{1,18}")
 EMPTY_LINES = re.compile(rb"(?:\r\n)*")
+OF_AN_UPGRADE = re.compile(rb"\r\n(?:upgrade|http2-settings):[^\r\n]*", re.IGNORECASE)
+HOST = re.compile(rb"(\r\nhost:[ \t]*)[^\r\n]*", re.IGNORECASE)
+CONNECTION = re.compile(rb"\r\n(connection):([^\r\n]*)", re.IGNORECASE)
 
 
 class BadMessage(Exception):
@@ -167,6 +170,8 @@ class Fields(NamedTuple):
     expects: bool
     # who says to ask, cut to what a history takes
     who: str = ""
+    # whether it offers another protocol
+    offers_upgrade: bool = False
 
 
 class Request:
@@ -216,7 +221,7 @@ def fields_of(head: bytes, is_old: bool) -> Fields:
     if FIELDS.fullmatch(head) is None:
         raise BadMessage("a line of the head is no field")
     length: Optional[int] = None
-    is_chunked = expects = False
+    is_chunked = expects = offers_upgrade = False
     encoding, who = b"", ""
     for name, text in FIELD.findall(head):
         name, value = name.lower(), text.strip(b" \t").lower()
@@ -232,11 +237,13 @@ def fields_of(head: bytes, is_old: bool) -> Fields:
             encoding = encoding + b"," + value if encoding else value
         elif name == b"x-opaque-id":
             who = text.strip(b" \t")[:LONGEST_WHO].decode("utf-8", "replace")
-        else:
+        elif name == b"expect":
             expects = value == b"100-continue"
+        else:
+            offers_upgrade = True
     if is_chunked and length is not None:
         raise BadMessage("the end of the body is told twice")
-    return Fields(length, is_chunked, encoding, expects, who)
+    return Fields(length, is_chunked, encoding, expects, who, offers_upgrade)
 
 
 remembered_fields = functools.lru_cache(maxsize=MOST_REMEMBERED)(fields_of)
@@ -278,6 +285,20 @@ def without_empty_lines(data: bytes) -> bytes:
     """The bytes without the empty lines that may stand before a request."""
     empty = EMPTY_LINES.match(data)
     return data[empty.end() :] if empty is not None else data
+
+
+def passed_head(head: bytes, host: bytes) -> bytes:
+    """The head of a request as it is passed on: without the offer to go on in another protocol, such as h2c, which is for the next server
+    alone; and with this host, if it is one."""
+    head = CONNECTION.sub(without_upgrade_options, OF_AN_UPGRADE.sub(b"", head))
+    return HOST.sub(lambda field: field[1] + host, head) if host else head
+
+
+def without_upgrade_options(field: "re.Match[bytes]") -> bytes:
+    """A field Connection without the options of an upgrade; nothing if no other is left."""
+    options = [it.strip(b" \t") for it in field[2].split(b",")]
+    kept = [it for it in options if it.lower() not in (b"", b"upgrade", b"http2-settings")]
+    return b"\r\n" + field[1] + b": " + b", ".join(kept) if kept else b""
 
 
 def head_end(data: bytes) -> int:

@@ -5,7 +5,7 @@ no longer: its open calls are lost, later ones aren't recorded, and a list besid
 told which documents are written, the recording ends. So what was recorded stays right in each case.
 """
 
-from typing import FrozenSet, Iterable, Optional, Tuple
+from typing import Callable, FrozenSet, Iterable, NamedTuple, Optional
 
 from .answering import Answering
 from .asked import Asked, Making
@@ -13,16 +13,33 @@ from .asking import Asking
 from .documents import UNSURE, State
 from .history import Histories
 from .inspection import Shape
+from .kept import MOST_KEPT
 from .ledger import Ledger
+from .paths import AS_SENT, Paths, parts_of, path_of
 from .recording import Recording
 from .routes import BULK, PASS, READS, Kind, Route, route_of
 from .unjudged import Unjudged
 
-Passed = Tuple[str, bytes, Route]
-"""A request that was passed on: its method, its target, and what it was taken for."""
+
+class Passed(NamedTuple):
+    """A request that was passed on: its method, its target, how that is read, and what the request was taken for."""
+
+    method: str
+    target: bytes
+    paths: Paths
+    route: Route
+
+    @property
+    def name(self) -> str:
+        """The first part of its path, which names the index, or indexes, unless it is one of the cluster's own words."""
+        return self.paths.own(parts_of(path_of(self.target.decode("utf-8", "replace")), "replace"))[0]
+
 
 HARMLESS_KINDS = (Kind.PASS, Kind.MAKE, Kind.NODES)
 """Requests that change no document."""
+
+JUDGED_BY_BODY = (BULK, Kind.LOOK)
+"""Requests whose bodies name what they change, which was looked for by the names that were known then."""
 
 
 class Judge:
@@ -36,12 +53,15 @@ class Judge:
         unjudged: Unjudged,
         first: State = State.JUDGED,
         only: Optional[FrozenSet[str]] = None,
+        most_kept: int = MOST_KEPT,
     ) -> None:
         self.history = history
         self.unjudged = unjudged
         self.recording = Recording(history, unjudged)
-        self.ledger = Ledger(self.recording, shape, name, first, only)
+        self.ledger = Ledger(self.recording, shape, name, first, only, most_kept)
         self._is_closed = False
+        # takes what the index is once it is found
+        self.heed_shape: Callable[[Shape], object] = lambda shape: None
         # what is asked, and what is answered, by those that tell it
         asking = Asking(self.ledger)
         self.ask, self.ask_in_pieces, self.take_items = asking.ask, asking.ask_in_pieces, asking.take_items
@@ -59,9 +79,17 @@ class Judge:
         """Whether the recording is over."""
         return self.recording.has_ended
 
-    def route(self, method: str, target: bytes) -> Route:
+    def route(self, method: str, target: bytes, paths: Paths = AS_SENT) -> Route:
         """What a request asks."""
-        return PASS if self.recording.has_ended else route_of(method, target, self.ledger.names)
+        return PASS if self.recording.has_ended else route_of(method, target, self.ledger.names, paths)
+
+    def settle(self) -> None:
+        """Has the recording wait: no call has a line until `settled`, and a document that is written meanwhile isn't judged."""
+        self.ledger.is_settling = True
+
+    def settled(self) -> None:
+        """Begins the recording."""
+        self.ledger.settled()
 
     def found(self, shape: Shape, passed: Iterable[Passed], gone: Iterable[Passed] = (), writes: int = 0) -> None:
         """Takes what the index is that was not there before. If more was written to it than so many writes that are known, only what
@@ -75,6 +103,7 @@ class Judge:
         elif not any(may_have_written(it, shape) for it in passed):
             self.ledger.shape, self.ledger.names = shape, shape.names
             self.ledger.first = State.JUDGED if shape.is_empty or 0 < shape.changes <= writes else UNSURE
+            self.heed_shape(shape)
 
     def made(self, making: Making, status: int, content: Optional[bytes], length: Optional[int]) -> bool:
         """Writes the call of a request that was passed on alone, and what its answer says; nothing else on the index was open.
@@ -83,14 +112,14 @@ class Judge:
         """
         if self.shape is None and 400 <= status < 500:
             return True
-        asked = self.ask(making.route, making.method, making.content, making.client)
+        asked = self.ask(making.route, making.method, making.content, making.who)
         if asked is not None:
             self.answered(asked, status, content, length)
         return self.shape is not None
 
     def lost(self, asked: Asked) -> None:
         """Writes that no whole answer came."""
-        told = self.ask(asked.route, asked.method, asked.content, asked.client) if isinstance(asked, Making) else asked
+        told = self.ask(asked.route, asked.method, asked.content, asked.who) if isinstance(asked, Making) else asked
         if told is not None:
             self._lost(told)
 
@@ -115,6 +144,9 @@ class Judge:
 
 def may_have_written(passed: Passed, shape: Shape) -> bool:
     """Whether a request that was passed on may have written to the index, unknown by the name that it used."""
-    method, target, route = passed
+    if len(shape.names.all) == 1:
+        # (the one that was known)
+        return False
+    method, target, paths, route = passed
     was_passed_by = route.kind is Kind.PASS and method not in READS
-    return was_passed_by and route_of(method, target, shape.names).kind not in HARMLESS_KINDS or route.kind is BULK
+    return was_passed_by and route_of(method, target, shape.names, paths).kind not in HARMLESS_KINDS or route.kind in JUDGED_BY_BODY

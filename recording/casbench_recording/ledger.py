@@ -1,16 +1,22 @@
 """The documents that a recorder which watches has seen: which of them are judged, and from when on others aren't, with the reason."""
 
 import re
-from typing import Dict, FrozenSet, Iterator, List, Optional, Sequence, Tuple
+from typing import FrozenSet, Iterator, List, Optional, Sequence, Tuple
 
-from .documents import NOT_JUDGED, NOT_LOOKED_AT, UNSURE, Document, State, is_id
+from .asked import Part
+from .continuing import Continuing
+from .documents import NOT_JUDGED, UNSURE, Document, State, is_id
 from .history import Call
 from .inspection import Shape
+from .kept import MOST_KEPT, Gone, Kept
 from .recording import Recording
 from .routes import Names
 
 MOST_SWEPT = 2000
 """How many documents are judged no longer before others have their turn."""
+
+BEFORE = "it was written before the recording began"
+"""Why a document isn't judged that was written while the recording waited."""
 
 MADE_ID = re.compile(r"[A-Za-z0-9_-]{20}")
 """An id as a cluster makes one for a document that is given none."""
@@ -19,16 +25,31 @@ MADE_ID = re.compile(r"[A-Za-z0-9_-]{20}")
 class Ledger:
     """The documents of the index. A document of which some write can't be told is judged no longer: what is open is lost."""
 
-    def __init__(self, recording: Recording, shape: Optional[Shape], name: str, first: State, only: Optional[FrozenSet[str]]) -> None:
+    def __init__(
+        self,
+        recording: Recording,
+        shape: Optional[Shape],
+        name: str,
+        first: State,
+        only: Optional[FrozenSet[str]],
+        most_kept: int = MOST_KEPT,
+    ) -> None:
         self.recording = recording
         recording.leave = self.mark
         # (None as long as the index isn't there)
         self.shape = shape
         self.names = shape.names if shape is not None else Names([name], [])
-        self.documents: Dict[str, Document] = {}
+        # (a history has a bound of its own; a recording without end has none but this)
+        self._endless = recording.history if isinstance(recording.history, Continuing) else None
+        self.documents = Kept(most_kept if self._endless is not None else None)
+        self._most_kept = most_kept
+        # those that aren't judged any more
+        self._gone = Gone()
         # what is known of a document that is seen for the first time, and the documents that are looked at, if not all
         self.first = first
         self.only = only
+        # whether the recording waits for writes to be over that were made before it: then no call has a line
+        self.is_settling = False
         # how many writes were made of documents whose ids nobody knows yet
         self.unnamed = 0
         # how many calls were made that have no lines, since their documents aren't judged
@@ -41,27 +62,57 @@ class Ledger:
         document = self.documents.get(id)
         if document is None:
             document = self._first_seen(id)
+        if self.documents.given_up:
+            self._give_up()
         return document if document is not None and document.state is not NOT_JUDGED else None
+
+    def is_known(self, id: str) -> bool:
+        """Whether a document was seen before, and is kept or isn't judged."""
+        return self.documents.get(id) is not None or id in self._gone
+
+    def _give_up(self) -> None:
+        """Judges those no longer that weren't asked for while many others were; one that is asked something stays."""
+        given_up, self.documents.given_up = [*self.documents.given_up.values()], {}
+        for it in given_up:
+            if it.open:
+                self.documents.add(it)
+        why = f"it was not asked for while {self._most_kept // 2} others were"
+        self._leave([(it, why) for it in given_up if not it.open])
+
+    def rests(self, part: Part) -> None:
+        """Forgets the document of a call that ended, if nothing was ever seen of it: it comes again as one that is seen first."""
+        document = part.document
+        if self._endless is None or document is None or document.was_written or document.open or self.first is not State.JUDGED:
+            return
+        if self._endless.forgets(document.id):
+            self.documents.pop(document.id)
 
     def _first_seen(self, id: str) -> Optional[Document]:
         """A document that is seen for the first time, or None where it isn't looked at."""
-        if not is_id(id) or self.only is not None and id not in self.only:
+        if not is_id(id) or self.only is not None and id not in self.only or id in self._gone:
             return None
         shard = self.shape.shard_of(id) if self.shape else 0
         if self.recording.has_ended or self.recording.history.of_shard(shard).has_ended:
             return None
-        document = self.documents[id] = Document(id, shard, self.first)
+        document = Document(id, shard, self.first)
+        self.documents.add(document)
         if self.open_sweeps:
             self.mark(id, "it was first seen while a request changed documents that nobody named")
         elif self.unnamed and MADE_ID.fullmatch(id):
             self.mark(id, "it may be a document whose id no answer told")
         return document
 
+    def settled(self) -> None:
+        """Begins the recording. A write that is open now and whose id its answer tells is one from before it."""
+        if self.is_settling:
+            self.is_settling = False
+            self.sweeps += 1
+
     def untold(self, id: str, why: str) -> None:
         """Heeds that a document is written in a way that can't be told; where it has no id, one that nobody knows."""
         if not id:
             self.unnamed += 1
-        elif id in self.documents or self._first_seen(id) is not None:
+        elif self.documents.get(id) is not None or self._first_seen(id) is not None:
             self.mark(id, why)
 
     def mark(self, id: str, why: str) -> None:
@@ -70,18 +121,20 @@ class Ledger:
 
     def mark_all(self, reasons: Sequence[Tuple[str, str]]) -> None:
         """The same of several documents, each with the reason."""
+        popped = [(self.documents.pop(id), why) for id, why in reasons]
+        self._leave([(document, why) for document, why in popped if document is not None])
+
+    def _leave(self, documents: Sequence[Tuple[Document, str]]) -> None:
+        """Judges documents no longer that are kept no longer, each with the reason."""
         lost: List[Call] = []
-        named: List[Tuple[str, str]] = []
-        for id, why in reasons:
-            document = self.documents[id]
-            if document.state is not NOT_JUDGED:
-                lost += document.open
-                document.state, self.documents[id] = NOT_JUDGED, NOT_LOOKED_AT
-                named.append((id, why))
+        for document, _ in documents:
+            lost += document.open
+            document.state = NOT_JUDGED
+            self._gone.add(document.id)
         self.recording.lose(lost)
-        self.recording.unjudged.names(named)
-        if self.recording.unjudged.is_full:
-            self.recording.end("more documents can't be judged than the list takes")
+        if self._endless is not None:
+            self._endless.leave([document.id for document, _ in documents])
+        self.recording.unjudged.names([(document.id, why) for document, why in documents])
 
     def begin_sweep(self) -> None:
         """Heeds that a request may change every document that is there, those of now and those that are seen before its answer."""

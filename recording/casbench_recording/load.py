@@ -16,7 +16,7 @@ import random
 import threading
 import time
 from dataclasses import dataclass
-from typing import Callable, Dict, Iterator, List, Mapping, Optional, Protocol, Sequence, Type, TypeVar, cast
+from typing import Callable, Dict, Iterator, List, Mapping, Optional, Protocol, Sequence, Type, TypeVar, cast, runtime_checkable
 
 from .history import Call, CallWriter, Ended, Operation, Pair
 from .history import NoOutcome as NoOutcome
@@ -141,6 +141,13 @@ class Store(Protocol):
         """A connection to a node, counted from 0. Raises Unreachable."""
 
 
+@runtime_checkable
+class NamedStore(Store, Protocol):
+    """A store whose nodes have names, which the lines of calls have."""
+
+    names: Sequence[str]
+
+
 class Draw:
     """What is drawn from a seed. `random()` alone is called: its numbers are the same in every release of Python."""
 
@@ -194,6 +201,7 @@ class Client(threading.Thread):
         super().__init__(daemon=True)
         self.load, self.store, self.node, self.habits, self.draw = load, store, node % store.nodes, habits, draw
         self.session: Optional[Session] = None
+        self.names = store.names if isinstance(store, NamedStore) else [""] * store.nodes
         self.calls = 0
         # of each document the pair that the client received last
         self.known: Dict[str, Pair] = {}
@@ -258,7 +266,8 @@ class Client(threading.Thread):
 
     def begin(self, operations: Sequence[Operation]) -> List[Call]:
         """Writes the lines of calls. The value of a write is the number of its call."""
-        calls = self.load.history.write_all(operations)
+        name = self.names[self.node]
+        calls = self.load.history.write_all([it._replace(node=name) for it in operations] if name else operations)
         self.calls += len(calls)
         return calls
 

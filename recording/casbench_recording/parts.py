@@ -11,6 +11,7 @@ import time
 from typing import Callable, Dict, Tuple
 
 from .history import MOST_EVENTS, Histories, History, HistoryError
+from .reading import Reading
 
 
 class Parts(Histories):
@@ -32,6 +33,9 @@ class Parts(Histories):
         """The histories that were begun."""
         with self._lock:
             return tuple(self._histories.values())
+
+    def judge_in(self, reading: Reading) -> None:
+        self._most_events = min(self._most_events, reading.most_events)
 
     def of_shard(self, shard: int) -> History:
         """The history of a shard's calls, begun where there is none yet."""

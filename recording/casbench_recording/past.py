@@ -12,10 +12,11 @@ a conflict hides.
 import json
 from dataclasses import dataclass
 from enum import Enum
-from typing import Dict, List, NamedTuple, Optional
+from typing import Dict, List, NamedTuple, Optional, Sequence, Tuple, Union
 
-from .history import CONFLICT, WRITES_A_VALUE, Call, Operation, Pair, is_whole, pair_of, value_of
-from .reading import STRICT, Conflicts, Gets, Reading
+from .history import CONFLICT, WRITES_A_VALUE, Call, Loss, Operation, Pair, is_whole, pair_of, value_of
+from .reading import STRICT, Conflicts, Gets, Reading, Writes
+from .unperformed import changed_nothing, type_of
 
 
 class Version(NamedTuple):
@@ -32,6 +33,7 @@ class Outcome(Enum):
     FOUND = "the get found the version that the reply shows"
     MISSING = "the get found no document"
     REFUSED = "the write was answered with a conflict"
+    UNCHANGED = "the update's last attempt changed nothing"
     UNKNOWN = "the outcome is unknown"
 
 
@@ -45,7 +47,7 @@ class Told(NamedTuple):
 read_json = json.JSONDecoder().decode
 """The value of a JSON text."""
 
-MISSING, REFUSED, UNKNOWN = Told(Outcome.MISSING), Told(Outcome.REFUSED), Told(Outcome.UNKNOWN)
+MISSING, REFUSED, UNCHANGED, UNKNOWN = (Told(it) for it in (Outcome.MISSING, Outcome.REFUSED, Outcome.UNCHANGED, Outcome.UNKNOWN))
 
 RESULTS_OF_A_WRITE = {
     ("index", 201, "created"),
@@ -71,9 +73,16 @@ def told_by(operation: Operation, status: int, text: Optional[str]) -> Told:
     pair = pair_of(body)
     if pair is not None and (operation.op, status, body.get("result")) in RESULTS_OF_A_WRITE:
         return Told(Outcome.WRITTEN, Version(pair, operation.value))
-    error = body.get("error")
-    is_conflict = status == 409 and isinstance(error, dict) and error.get("type") == CONFLICT
-    return REFUSED if is_conflict else UNKNOWN
+    if status == 409 and type_of(body.get("error")) == CONFLICT:
+        return REFUSED
+    return UNCHANGED if operation.op == "index" and changed_nothing(status, body) else UNKNOWN
+
+
+def told_by_ending(operation: Operation, ending: Union[Tuple[int, Optional[str]], Loss]) -> Optional[Told]:
+    """What an ending says of a call; None of one that was not performed."""
+    if not isinstance(ending, Loss):
+        return told_by(operation, *ending)
+    return {Loss.UNKNOWN: UNKNOWN, Loss.OVER: UNCHANGED, Loss.VOID: None}[ending]
 
 
 def told_by_get(status: int, body: Dict[str, object]) -> Told:
@@ -107,13 +116,15 @@ class Past:
         # the version with the greatest pair that a reply showed, of those that last
         self.version: Optional[Version] = None
         self._reading = reading
+        # (what is empty takes no memory of its own: there are many documents)
         # the calls that are open, of each how many refusals had been taken when it was made
-        self._open: Dict[Call, int] = {}
+        self._open: Optional[Dict[Call, int]] = None
         # writes of unknown outcome that may still take effect: those without a condition, and those with one
-        self._lost_blind: List[Operation] = []
-        self._lost_conditional: List[Operation] = []
-        # the last of the writes that were answered with a conflict and may have been performed, and how many there were in all
-        self._refused: List[Operation] = []
+        self._lost_blind: Sequence[Operation] = ()
+        self._lost_conditional: Sequence[Operation] = ()
+        # the last of the writes that were answered as ones that changed nothing, and may have been performed all the same, and how many there
+        # were in all
+        self._refused: Sequence[Operation] = ()
         self._refusals = 0
 
     @property
@@ -122,25 +133,39 @@ class Past:
         return not self._open
 
     @property
+    def is_blank(self) -> bool:
+        """Whether nothing is known of it: no call is open, no version is known, and no write was lost."""
+        return self.version is None and self.is_at_rest and not self._undecided()
+
+    @property
     def open_calls(self) -> List[Call]:
         """The calls that are open."""
-        return list(self._open)
+        return list(self._open or ())
 
     def called(self, call: Call) -> None:
         """Takes a call."""
+        if self._open is None:
+            self._open = {}
         self._open[call] = self._refusals
 
-    def ended(self, call: Call, told: Told) -> None:
-        """Takes what became of an open call."""
+    def ended(self, call: Call, told: Optional[Told]) -> None:
+        """Takes what became of an open call; None if it was not performed."""
+        assert self._open is not None
         operation, refusals = call.operation, self._open.pop(call)
+        if not self._open:
+            self._open = None
+        if told is None:
+            return
         if told.version is not None:
             if told.outcome is Outcome.WRITTEN or self._reading.gets is Gets.LAST:
                 self._shown(told.version, told.outcome, self._refusals - refusals)
-        elif told is REFUSED and self._may_be_performed(operation):
-            self._refused.append(operation)
+        elif told is REFUSED and self._may_be_performed(operation) or told is UNCHANGED and self._may_be_performed_before(operation):
+            self._refused = appended(self._refused, operation)
             self._refusals += 1
+        elif told is UNKNOWN and operation.op != "get" and operation.condition is None:
+            self._lost_blind = appended(self._lost_blind, operation)
         elif told is UNKNOWN and operation.op != "get":
-            (self._lost_blind if operation.condition is None else self._lost_conditional).append(operation)
+            self._lost_conditional = appended(self._lost_conditional, operation)
 
     def _may_be_performed(self, refused: Operation) -> bool:
         """Whether a write that was just answered with a conflict may have been performed behind the version.
@@ -153,35 +178,40 @@ class Past:
             return self._may_still_follow(refused)
         return any(it.op == "delete" and self._may_still_follow(it) for it in self._undecided())
 
+    def _may_be_performed_before(self, unchanged: Operation) -> bool:
+        """Whether an update whose last attempt changed nothing may have been performed by an earlier one, behind the version."""
+        is_tried_again = self._reading.writes is Writes.REPEATED or self._reading.conflicts is not Conflicts.PLAIN
+        return is_tried_again and self._may_still_follow(unchanged)
+
     def _may_still_follow(self, operation: Operation) -> bool:
         """Whether a write may take effect after the last version."""
         return self.version is None or may_follow(operation, self.version)
 
     def _undecided(self) -> List[Operation]:
         """The writes of which it isn't known whether they were performed or will be, and the gets that are open."""
-        return [*self._lost_blind, *self._lost_conditional, *(it.operation for it in self._open), *self._refused]
+        return [*self._lost_blind, *self._lost_conditional, *(it.operation for it in self._open or ()), *self._refused]
 
     def _shown(self, version: Version, outcome: Outcome, since: int) -> None:
         """Takes a version that lasts and that the reply to a call shows, with how many refusals were taken since the call was made.
 
-        A write that was answered with a conflict before takes no pair past that version, so it is dropped.
+        A write that was answered before as one that changed nothing takes no pair past that version, so it is dropped.
         """
         if len(self._refused) > since:
-            del self._refused[: len(self._refused) - since]
+            self._refused = self._refused[len(self._refused) - since :] or ()
         if self.version is not None and version.pair <= self.version.pair:
             return
         if outcome is Outcome.FOUND:
             self._drop_writer_of(version)
         self.version = version
-        self._lost_conditional = [it for it in self._lost_conditional if may_follow(it, version)]
+        self._lost_conditional = [it for it in self._lost_conditional if may_follow(it, version)] or ()
 
     def _drop_writer_of(self, version: Version) -> None:
         """Drops the lost write that took a version which a get found, if only one can have: it took effect, and won't again."""
         undecided = [it for it in self._undecided() if it.op in WRITES_A_VALUE and it.value == version.value]
         writers = [it for it in undecided if may_precede(it, version)]
         if len(writers) == 1 and not self._reading.is_performed_twice(writers[0].op, writers[0].condition is not None):
-            self._lost_blind = [it for it in self._lost_blind if it is not writers[0]]
-            self._lost_conditional = [it for it in self._lost_conditional if it is not writers[0]]
+            self._lost_blind = [it for it in self._lost_blind if it is not writers[0]] or ()
+            self._lost_conditional = [it for it in self._lost_conditional if it is not writers[0]] or ()
 
     def beginning(self) -> Beginning:
         """What the document's next part begins with.
@@ -190,6 +220,14 @@ class Past:
         to neither part.
         """
         return Beginning(self.version, [it for it in self._undecided() if it.op != "get" and self._may_still_follow(it)])
+
+
+def appended(operations: Sequence[Operation], operation: Operation) -> List[Operation]:
+    """The operations with one more."""
+    if not isinstance(operations, list):
+        return [*operations, operation]
+    operations.append(operation)
+    return operations
 
 
 def may_follow(operation: Operation, version: Version) -> bool:

@@ -111,10 +111,16 @@ class NamedOnce(argparse.Action):
         setattr(namespace, self.dest, values)
 
 
-def add_reading_options(add: Callable[..., object]) -> None:
-    """Adds the options of a reading, which are those of a check."""
+def add_reading_options(add: Callable[..., object], **more: str) -> None:
+    """Adds the options of a reading, which are those of a check; and more values of them, each by the name of its option."""
     for name, kind in {"profile": Profile, **CHOICES}.items():
-        add(f"--{name}", action=NamedOnce, choices=[it.value for it in kind], help=HELP[name])
+        values = [it.value for it in kind] + ([more[name]] if name in more else [])
+        add(f"--{name}", action=NamedOnce, choices=values, help=HELP[name])
+
+
+def is_named(setting: argparse.Namespace) -> bool:
+    """Whether an option names a reading, or a choice of one."""
+    return any(getattr(setting, name) is not None for name in ("profile", *CHOICES))
 
 
 def reading_of(setting: argparse.Namespace) -> Reading:

@@ -24,20 +24,29 @@ import urllib.parse
 from dataclasses import dataclass
 from typing import Any, Callable, Dict, List, NamedTuple, Optional, Sequence, Tuple
 
-from .cluster import START_PATIENCE, Answer, Cluster, ClusterError, Connection, NoAnswer, Url, credentials_of, number_from, trust_of, url_of
+from .cluster import START_PATIENCE, Answer, Cluster, ClusterError, Connection, NoAnswer, Url, add_certificate_options, certificates_of
+from .cluster import credentials_of, name_of, number_from, trust_of, url_of
 from .console import ENDED_EARLY, counted
 from .continuing import Continuing, add_part_options
 from .disturb import Disturber, read_plan
+from .fitting import Fitting
 from .history import Body, Call, CallWriter, History, HistoryError, Operation, Pair, pair_of
+from .inspection import Inspector
 from .load import ANY_NUMBER, MIXTURE, WRITES, Habits, Load
 from .progress import Progress
-from .reading import add_reading_options, reading_of
-from .watcher import Watcher, add_watch_options, watch_options
+from .reading import OPENSEARCH, Reading, add_reading_options, is_named, reading_of
+from .routes import PRIMARY
+from .snapshots import CheckError
+from .unperformed import is_unperformed
+from .watcher import CAN_NOT_CHECK, Watcher, add_watch_options, try_watch, watch_options
 
 TURNS = ",".join(f"{kind}={weight}" for kind, weight in {**MIXTURE, "bulk": 1}.items())
 """How often each kind of turn is drawn, where the words don't say."""
 
 KINDS = ("get", *WRITES, "bulk")
+
+OF_THE_PRIMARY = "primary"
+"""The value of --gets by which gets are sent to the primary."""
 
 
 class Stop:
@@ -77,12 +86,13 @@ def condition_of(operation: Operation) -> Dict[str, int]:
     return {"if_seq_no": pair.seq, "if_primary_term": pair.term} if pair is not None else {}
 
 
-def request_of(index: str, operation: Operation) -> Tuple[str, str, Optional[str]]:
-    """The method, path and body of the request of one call."""
+def request_of(index: str, operation: Operation, asks_primary: bool = False) -> Tuple[str, str, Optional[str]]:
+    """The method, path and body of the request of one call; a get may be one that the primary answers."""
     method = {"get": "GET", "index": "PUT", "create": "PUT", "delete": "DELETE"}[operation.op]
     room = "_create" if operation.op == "create" else "_doc"
-    condition = urllib.parse.urlencode(condition_of(operation))
-    path = f"/{index}/{room}/{urllib.parse.quote(operation.id, safe='')}" + ("?" + condition if condition else "")
+    words = {"preference": PRIMARY} if asks_primary and operation.op == "get" else condition_of(operation)
+    query = urllib.parse.urlencode(words)
+    path = f"/{index}/{room}/{urllib.parse.quote(operation.id, safe='')}" + ("?" + query if query else "")
     return method, path, source_of(operation)
 
 
@@ -133,15 +143,18 @@ class Reply:
         return None if self.members.get("result") in ("deleted", "not_found") else pair_of(self.members)
 
     def write(self, call: Call) -> None:
-        """Writes the reply to a call."""
-        call.reply(self.status, self.body)
+        """Writes the reply to a call, or that it was not performed, if the reply proves that of a write."""
+        if call.operation.op != "get" and is_unperformed(self.status, self.members):
+            call.void()
+        else:
+            call.reply(self.status, self.body)
 
 
 class ClusterSession:
     """A connection of a client to a node."""
 
-    def __init__(self, connection: Connection, index: str) -> None:
-        self.connection, self.index = connection, index
+    def __init__(self, connection: Connection, index: str, asks_primary: bool) -> None:
+        self.connection, self.index, self.asks_primary = connection, index, asks_primary
 
     @property
     def is_open(self) -> bool:
@@ -150,7 +163,7 @@ class ClusterSession:
 
     def send(self, call: Call) -> None:
         """Sends the request of a call."""
-        self.connection.send(*request_of(self.index, call.operation))
+        self.connection.send(*request_of(self.index, call.operation, self.asks_primary))
 
     def outcome(self, call: Call) -> Reply:
         """The reply to it."""
@@ -163,7 +176,10 @@ class ClusterSession:
 
     def outcomes(self, calls: Sequence[Call]) -> List[Optional[Reply]]:
         """What the answer to it says of each call."""
-        items = items_of([it.operation for it in calls], self.connection.receive())
+        answer = self.connection.receive()
+        if is_unperformed(answer.status, answer.members):
+            return [Reply(answer.status, answer.body, answer.members)] * len(calls)
+        items = items_of([it.operation for it in calls], answer)
         return [None if it is None else Reply(it["status"], it, it) for it in items]
 
     def close(self) -> None:
@@ -177,12 +193,14 @@ class ClusterStore:
     def __init__(self, setting: argparse.Namespace, is_over: Callable[[], bool]) -> None:
         self.setting, self.is_over = setting, is_over
         self.nodes = len(setting.clusters)
+        # (one alone isn't named)
+        self.names = [name_of(it.url) for it in setting.clusters] if self.nodes > 1 else [""]
 
     def connect(self, node: int) -> ClusterSession:
         """A connection to a node. Raises ClusterError, which ends the recording."""
         connection = Connection(self.setting.clusters[node])
         connection.open(self.setting.patience, self.is_over)
-        return ClusterSession(connection, self.setting.index)
+        return ClusterSession(connection, self.setting.index, self.setting.asks_primary)
 
 
 # The recording
@@ -214,6 +232,16 @@ def make_index(connection: Connection, setting: argparse.Namespace, index: str) 
         raise ClusterError(why_no_index(index, answer.status, told))
 
 
+def try_primary(connection: Connection, index: str) -> None:
+    """Sees to it that the cluster takes a get of the primary, as OpenSearch does since 2.4. Else each of them would be lost."""
+    try:
+        answer = connection.ask("GET", f"/{index}/_doc/none?preference={PRIMARY}")
+    except NoAnswer as fault:
+        raise ClusterError(f"the cluster was asked for a document of its primary, and no answer came: {fault}") from fault
+    if answer.members.get("found") is not False:
+        raise ClusterError(f"the cluster doesn't take gets with preference={PRIMARY} (HTTP {answer.status}): OpenSearch does since 2.4")
+
+
 def why_no_index(index: str, status: int, told: Dict[str, Any]) -> str:
     """Why an index was not made, in words."""
     error = told.get("error")
@@ -231,16 +259,22 @@ def why_no_index(index: str, status: int, told: Dict[str, Any]) -> str:
 def record(setting: argparse.Namespace) -> Recorded:
     """Makes the index and records the clients' calls."""
     stop = Stop()
+    if setting.watch:
+        try_watch(setting)
     recording = recording_of(setting)
     with contextlib.ExitStack() as stack:
         stack.callback(recording.end)
-        watcher = stack.enter_context(Watcher(setting.file, watch_options(setting), stop.halt)) if setting.watch else None
+        watcher = stack.enter_context(Watcher(setting.file, watch_options(setting), stop.halt, tell_fault)) if setting.watch else None
         # (before the watch ends, so that its last check has the last line)
         stack.enter_context(recording)
         stack.enter_context(Progress(lambda: (recording.calls, recording.lost)))
         with contextlib.closing(Connection(setting.clusters[0])) as first:
             first.open(START_PATIENCE)
             make_index(first, setting, setting.index)
+            if setting.asks_primary:
+                try_primary(first, setting.index)
+        if is_fitted(setting):
+            fit(setting, recording, watcher)
         if setting.seconds is not None:
             stop.last = time.monotonic() + setting.seconds
         load = load_of(setting, recording, stop)
@@ -254,6 +288,33 @@ def record(setting: argparse.Namespace) -> Recorded:
         is_early = setting.seconds is not None and not stop.is_over()
         stop.is_full = is_early and isinstance(recording, History) and not recording.room
     return Recorded(recording, stop, watcher.status if watcher is not None else 0)
+
+
+def is_fitted(setting: argparse.Namespace) -> bool:
+    """Whether the reading is the one that fits the index, which isn't known before that is made: if one matters, and none is named."""
+    return (setting.watch or setting.part is not None) and not is_named(setting)
+
+
+def fit(setting: argparse.Namespace, recording: CallWriter, watcher: Optional[Watcher]) -> None:
+    """Has the recording and its watch take the reading that fits the index; if it can't be looked at, the one that accuses less."""
+
+    def judge_in(reading: Reading) -> None:
+        setting.reading = reading
+        if watcher is not None:
+            watcher.change(watch_options(setting))
+
+    fitting = Fitting(setting.file, recording, len(setting.clusters), is_named(setting))
+    fitting.heed_reading = judge_in
+    with contextlib.closing(Connection(setting.clusters[0])) as connection:
+        try:
+            shape = Inspector(connection).inspect(urllib.parse.unquote(setting.index))
+        except ClusterError as fault:
+            fitting.take_unknown(str(fault), tell_fault)
+            return
+    if shape is not None:
+        fitting.take(shape, tell_fault)
+    else:
+        fitting.take_unknown("it isn't there", tell_fault)
 
 
 def load_of(setting: argparse.Namespace, recording: CallWriter, stop: Stop) -> Load:
@@ -316,34 +377,41 @@ def words_of(arguments: Optional[Sequence[str]]) -> argparse.Namespace:
     add("--timeout", type=number_from(0.001, float), default=10.0, help="seconds to wait for an answer (10)")
     add("--patience", type=number_from(0, float), default=60.0, help="seconds to wait for a connection (60)")
     add_part_options(add)
-    add_reading_options(add)
+    add_reading_options(add, gets=OF_THE_PRIMARY)
     add_watch_options(add)
     add("--disturb", type=read_plan, metavar="PLAN", default=[], help="run the commands of this plan meanwhile, to disturb the cluster")
     add("--replicas", type=number_from(0), help="how many replicas the index has (the cluster's default)")
-    add("--ca-file", help="the certificates of who is trusted to vouch for the cluster")
+    add_certificate_options(add)
     setting = parser.parse_args(arguments)
+    setting.asks_primary = setting.gets == OF_THE_PRIMARY
+    if setting.asks_primary:
+        # (how they are read is the profile's matter)
+        setting.gets = None
     if setting.calls is None:
         setting.calls = 1000 if setting.seconds is None else ANY_NUMBER
     setting.index = urllib.parse.quote(setting.index, safe="")
-    if setting.ca_file is not None and all(it.scheme != "https" for it in setting.urls):
-        parser.error("--ca-file is for an address that begins with https")
+    setting.certificates = certificates_of(parser, setting, setting.urls)
     setting.reading = reading_of(setting)
-    most_calls = setting.reading.most_events // 2
+    most_calls = (OPENSEARCH if is_fitted(setting) else setting.reading).most_events // 2
     if setting.part is None and setting.seconds is None and setting.clients * setting.calls > most_calls:
         parser.error(f"over {most_calls} calls, the most of one history: record it in parts, by --parts")
     return setting
 
 
 def main(arguments: Optional[Sequence[str]] = None) -> int:
-    """Records by the words given, and returns the exit status: 0 recorded, 1 a named error, 3 the recording ended early, 130 interrupted."""
+    """Records by the words given, and returns the exit status: 0 recorded, 1 a named error, 3 the recording ended early, 4 it can't
+    be checked, 130 interrupted."""
     setting = words_of(arguments)
     try:
         credentials = credentials_of(os.environ)
-        setting.clusters = [Cluster(it, setting.timeout, credentials, trust_of(it, setting.ca_file)) for it in setting.urls]
+        setting.clusters = [Cluster(it, setting.timeout, credentials, trust_of(it, setting.certificates)) for it in setting.urls]
         recorded = record(setting)
     except (ClusterError, HistoryError, OSError) as fault:
         tell_fault(str(fault))
         return 1
+    except CheckError as fault:
+        tell_fault(str(fault))
+        return CAN_NOT_CHECK
     except KeyboardInterrupt:
         return 130
     recording, stop = recorded.recording, recorded.stop

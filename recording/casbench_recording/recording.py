@@ -1,11 +1,11 @@
 """The lines of a recording that watches, and its end: at its time, or before it, where what is written can't be told any more."""
 
-from typing import Callable, Dict, Optional, Sequence
+from typing import Callable, Dict, Sequence, Union
 
 from .asked import Part
 from .bulk import Untellable
 from .continuing import Continuing, TooManyLost
-from .history import Call, CallWriter, Ended, Ending, Histories, HistoryError, Reply
+from .history import Call, CallWriter, Ended, Ending, Histories, HistoryError, Loss, Reply
 from .parts import Parts
 from .past import Beginning
 from .unjudged import Unjudged
@@ -88,19 +88,19 @@ class Recording:
         for part, call in zip(parts, calls):
             part.call = call
             if part.document is not None:
-                part.document.open[call] = None
+                part.document.opens(call)
         if self._moved:
             for document in {it.document for it in parts if it.document is not None and it.document.id in self._moved}:
                 document.goes_on(self._moved[document.id])
             self._moved.clear()
 
-    def write_ending(self, call: Call, reply: Optional[Reply]) -> None:
+    def write_ending(self, call: Call, ending: Union[Reply, Loss]) -> None:
         """Writes the ending of a call. If the history ended in the meantime the call is lost by that."""
         try:
-            if reply is None:
-                call.history.lose_one(call)
+            if isinstance(ending, Loss):
+                call.history.lose_one(call, ending)
             else:
-                call.history.reply(call, *reply)
+                call.history.reply(call, *ending)
         except Ended:
             pass
         except HistoryError as fault:

@@ -7,7 +7,11 @@ import functools
 import re
 import urllib.parse
 from enum import Enum
-from typing import Dict, FrozenSet, List, Mapping, NamedTuple, Sequence, Tuple
+from typing import Dict, List, Mapping, NamedTuple, Sequence
+
+from .elsewhere import look_of
+from .looks import Look
+from .paths import AS_SENT, MAY_CHANGE, Paths, has_dots, normalised_parts, parts_of, path_of
 
 
 class Kind(Enum):
@@ -21,7 +25,7 @@ class Kind(Enum):
     MULTIPLE_GET = "reads the documents of a get of several"
     UNTOLD = "judges the document no longer"
     SWEEP = "judges no document that was seen before the answer"
-    LOOK = "ends the recording if the body, or the query, says one of some words"
+    LOOK = "ends the recording if the body says that it may change documents of the index"
     END = "ends the recording"
     MAKE = "takes it for one that may make the index, and changes no document"
     NODES = "warns that who asks may go around the recorder"
@@ -32,8 +36,8 @@ CALL, BULK, SWEEP = Kind.CALL, Kind.BULK, Kind.SWEEP
 
 
 class Route(NamedTuple):
-    """What is asked: for a call its operation, document and words; for several calls the index that the path names; for a look
-    the words that count, and the texts that count as a whole; for an end the reason."""
+    """What is asked: for a call its operation, document and words; for several calls the index that the path names; for a look how the
+    body is looked at; for an end the reason."""
 
     kind: Kind
     op: str = ""
@@ -41,8 +45,7 @@ class Route(NamedTuple):
     words: Mapping[str, str] = {}
     room: str = ""
     why: str = ""
-    told: Tuple[str, ...] = ()
-    whole: FrozenSet[str] = frozenset()
+    look: Look = Look.NOTHING
 
 
 class Names:
@@ -57,12 +60,20 @@ class Names:
         """Whether an expression of several indexes, or of one that a date makes, may name the index. A very long one may."""
         if expression == "_all" or len(expression) > LONGEST_EXPRESSION:
             return True
-        return any(it.startswith("<") or self.has(it) for it in expression.split(","))
+        return any(self.has(pattern_of(it)) for it in expression.split(","))
 
     def has(self, pattern: str) -> bool:
         """Whether a name, in which a star stands for any text, names the index."""
         pieces = pattern.split("*")
         return any(is_made_of(it, pieces) for it in self.all)
+
+
+def pattern_of(name: str) -> str:
+    """A name, or the pattern of the names that a date makes of it: of `<logs-{now/d}>` it is `logs-*`."""
+    if not (name.startswith("<") and name.endswith(">")):
+        return name
+    pattern = DATE.sub("*", name[1:-1])
+    return pattern if not ESCAPES.intersection(pattern) else "*"
 
 
 def is_made_of(name: str, pieces: Sequence[str]) -> bool:
@@ -104,6 +115,12 @@ LONGEST_WHY = 200
 PLAIN_QUERY = re.compile(r"\w+=\w*(?:&\w+=\w*)*", re.ASCII)
 """A query in which nothing is encoded."""
 
+DATE = re.compile(r"\{[^{}\\]*(?:\{[^{}\\]*\})?\}")
+"""A date in a name, perhaps with the form in which it is written."""
+
+ESCAPES = set("{}\\")
+"""What makes such a name hard to read."""
+
 READS = ("GET", "HEAD", "OPTIONS")
 
 HARMLESS_OF_AN_INDEX = {
@@ -112,12 +129,15 @@ HARMLESS_OF_AN_INDEX = {
 }
 """First words behind an index of requests that change none of its documents."""
 
-HARMLESS = {
-    *("_search", "_msearch", "_count", "_refresh", "_flush", "_forcemerge", "_cache", "_validate", "_field_caps", "_analyze"),
-    *("_mtermvectors", "_rank_eval", "_render", "_scripts", "_cluster", "_nodes", "_tasks", "_cat", "_template", "_security"),
-    *("_index_template", "_component_template", "_ingest", "_pit"),
-}
-"""First words of requests without an index that change no document of an index that is there."""
+OF_SETTINGS = ("_settings", "_mapping", "_mappings")
+"""First words behind an index of requests that change its settings or its mapping."""
+
+RESIZES = ("_clone", "_split", "_shrink")
+"""Requests that make another index of one, and leave that one as it is."""
+
+MAKES_ANOTHER = (*RESIZES, "_rollover")
+NAMES_AN_ALIAS = ("_alias", "_aliases")
+"""First words behind another index of requests that make one more, or give it an alias."""
 
 MEANS_NOTHING = {
     *("pretty", "human", "error_trace", "filter_path", "format", "timeout", "refresh", "wait_for_active_shards"),
@@ -128,44 +148,62 @@ MEANS_NOTHING = {
 OF_A_KIND = ("_bulk", "_delete_by_query", "_update_by_query", "_mapping", "_mappings")
 """Last words of a path behind an index and a kind of documents, as older servers take them; to others they are ids."""
 
+PRIMARY = "_primary"
+"""The preference of a get that the primary answers. OpenSearch takes it since 2.4."""
+
 OF_A_WRITE = MEANS_NOTHING | {"op_type", "if_seq_no", "if_primary_term", "version", "version_type", "routing", "parent", "pipeline"}
 OF_AN_UPDATE = (OF_A_WRITE - {"op_type"}) | {"retry_on_conflict", "_source", "_source_includes", "_source_excludes", "lang"}
-OF_A_BULK = MEANS_NOTHING | {"routing", "_source", "_source_includes", "_source_excludes"}
+OF_AN_ITEM = {"_index", "_type", "_id", "op_type", "batch_size", *OF_AN_UPDATE}
+"""What may stand in the action of a bulk request's item, or in the query of the whole request."""
 
 PARTS_OF_A_SOURCE = {"_source", "_source_includes", "_source_excludes", "_source_include", "_source_exclude", "stored_fields"}
-OF_A_GET = MEANS_NOTHING | PARTS_OF_A_SOURCE | {"version", "version_type", "routing", "parent", "realtime"}
+OF_A_GET = MEANS_NOTHING | PARTS_OF_A_SOURCE | {"version", "version_type", "routing", "parent", "realtime", "preference"}
 
 
-def route_of(method: str, target: bytes, names: Names) -> Route:
+def route_of(method: str, target: bytes, names: Names, paths: Paths = AS_SENT) -> Route:
     """Reads the first line of a request."""
-    return (remembered_route if len(target) <= LONGEST_REMEMBERED else read_route)(method, target, names)
+    return (remembered_route if len(target) <= LONGEST_REMEMBERED else read_route)(method, target, names, paths)
 
 
-def read_route(method: str, target: bytes, names: Names) -> Route:
+def read_route(method: str, target: bytes, names: Names, paths: Paths) -> Route:
     """Reads the first line of a request. A write whose target servers read in several ways is none that can be told."""
     try:
-        return route_of_text(method, target.decode("ascii"), names, "strict")
+        return route_of_text(method, target.decode("ascii"), names, paths, "strict")
     except UnicodeDecodeError:
         if method in READS:
             return PASS
-    readings = [route_of_text(method, target.decode(it, "replace"), names, "replace") for it in ("latin-1", "utf-8")]
-    return PASS if readings == [PASS, PASS] else Route(Kind.END, why=f"{shown_request(method, repr(target))}, which can be read in several ways")
+    readings = [route_of_text(method, target.decode(it, "replace"), names, paths, "replace") for it in ("latin-1", "utf-8")]
+    if readings == [PASS, PASS]:
+        return PASS
+    path, _, _ = target.partition(b"?")
+    return Route(Kind.END, why=f"{shown_request(method, repr(path))}, which can be read in several ways")
 
 
 remembered_route = functools.lru_cache(maxsize=MOST_REMEMBERED)(read_route)
 """The same, remembered."""
 
 
-def route_of_text(method: str, target: str, names: Names, faults: str) -> Route:
-    """Reads a first line whose target is this text. Servers drop all slashes at the end of a path."""
-    path, _, query = target.partition("?")
-    if not path.startswith("/"):
-        path = "/" + path.partition("://")[2].partition("/")[2]
-    texts = [text_of(it, faults) for it in path.rstrip("/")[1:].split("/")]
+def route_of_text(method: str, target: str, names: Names, paths: Paths, faults: str) -> Route:
+    """Reads a first line whose target is this text."""
+    path, words = path_of(target), words_of(target.partition("?")[2], faults)
+    route = route_of_parts(method, paths.own(parts_of(path, faults)), words, names)
+    if paths.are_unchanged or not MAY_CHANGE.search(path):
+        return route
+    if not has_dots(path, faults):
+        normalised = normalised_parts(path, faults)
+        if method in READS or normalised is None or route_of_parts(method, paths.own(normalised), words, names) in (PASS, route):
+            return route
+    if method in READS:
+        # (it may show another document than the one that it names)
+        return PASS
+    return Route(Kind.END, why=f"{shown_request(method, path)}, a path that a server on the way may normalise (see --paths-unchanged)")
+
+
+def route_of_parts(method: str, texts: List[str], words: Dict[str, str], names: Names) -> Route:
+    """Reads a request by the parts of its path and the words of its query."""
     first, rest = texts[0], texts[1:]
     if "_bulk" in texts[:-1] and method not in READS:
-        return Route(Kind.END, why=f"{shown_request(method, path)}, a bulk request in pieces")
-    words = words_of(query, faults)
+        return Route(Kind.END, why=f"{shown_request(method, '/'.join(['', *texts]))}, a bulk request in pieces")
     if first in names.all:
         return route_on_index(method, first, rest, words, names)
     if rest[-1:] in (["_bulk"], ["_mget"]) or first in ("_bulk", "_mget"):
@@ -174,7 +212,7 @@ def route_of_text(method: str, target: str, names: Names, faults: str) -> Route:
         return NODES if asks_for_nodes(first, rest) else PASS
     if first.startswith("_") and first != "_all" or not first:
         return route_of_cluster(method, first, rest, words, names)
-    return route_of_expression(method, first, rest) if names.may_be_among(first) else PASS
+    return route_of_expression(method, first, rest, words) if names.may_be_among(first) else route_on_other(method, first, rest, words, names)
 
 
 def asks_for_nodes(first: str, rest: List[str]) -> bool:
@@ -187,11 +225,6 @@ def asks_for_nodes(first: str, rest: List[str]) -> bool:
 def shown_request(method: str, path: str) -> str:
     """A request as it stands in a reason."""
     return f"{method[:20]} {path[:LONGEST_WHY]}{'...' if len(path) > LONGEST_WHY else ''}"
-
-
-def text_of(part: str, faults: str) -> str:
-    """The text of a part of a path."""
-    return urllib.parse.unquote(part, errors=faults) if "%" in part else part
 
 
 def words_of(query: str, faults: str) -> Dict[str, str]:
@@ -228,8 +261,10 @@ def route_on_index(method: str, name: str, rest: List[str], words: Dict[str, str
     if first in ("_update_by_query", "_delete_by_query"):
         is_answered_at_end = words.get("wait_for_completion", "true") == "true"
         return Route(Kind.SWEEP, words=words, why=request, op="" if is_answered_at_end else "goes on")
-    if first in ("_settings", "_mapping", "_mappings"):
-        return Route(Kind.LOOK, words=words, told=("pipeline",), whole=frozenset(("_source", "_routing")), why=request)
+    if first in OF_SETTINGS:
+        return Route(Kind.LOOK, words=words, look=Look.SETTINGS, why=request)
+    if first in RESIZES and len(rest) == 2 and not names.may_be_among(rest[1]):
+        return Route(Kind.LOOK, words=words, look=Look.NAME, why=request)
     if not rest and method == "PUT":
         return Route(Kind.MAKE)
     if first in HARMLESS_OF_AN_INDEX:
@@ -242,14 +277,19 @@ def route_on_index(method: str, name: str, rest: List[str], words: Dict[str, str
 def route_on_document(method: str, room: str, id: str, words: Dict[str, str]) -> Route:
     """Reads a request on one document of the index."""
     if method in ("GET", "HEAD") and room == "_doc":
-        # (a copy that is chosen, or one that isn't asked for its latest, may rightly lag behind)
-        is_plain = OF_A_GET.issuperset(words) and words.get("realtime", "true") == "true"
-        return Route(Kind.CALL, "get", id, words) if is_plain else PASS
+        return Route(Kind.CALL, "get", id, words) if asks_for_latest(words, OF_A_GET) else PASS
     if method in ("PUT", "POST"):
         return route_of_write(Kind.CALL, "create" if room == "_create" else "index", id, words)
     if method == "DELETE" and room == "_doc":
         return route_of_write(Kind.CALL, "delete", id, words)
     return PASS if method in READS else Route(Kind.UNTOLD, id=id, why=f"it was asked for by {method[:20]}")
+
+
+def asks_for_latest(words: Mapping[str, object], known: "set[str]") -> bool:
+    """Whether a get has known words alone, and asks any copy, or the primary, for its latest. Another copy that is chosen, or one that isn't
+    asked for its latest, may rightly lag behind."""
+    is_latest = words.get("realtime", "true") in (True, "true") and words.get("preference", PRIMARY) == PRIMARY
+    return is_latest and known.issuperset(words)
 
 
 def route_of_write(kind: Kind, op: str, id: str, words: Mapping[str, str]) -> Route:
@@ -269,13 +309,8 @@ def checked(route: Route, known: "set[str]") -> Route:
         return Route(Kind.END, why=f"a write with pipeline={words['pipeline'][:LONGEST_WHY]}")
     strange = sorted(set(words) - known)
     if strange:
-        return Route(Kind.UNTOLD, id=route.id, why=f"it was written with {shown_word(strange[0], words)}")
+        return Route(Kind.UNTOLD, id=route.id, why=f"it was written with the parameter {strange[0][:LONGEST_WHY]}")
     return route
-
-
-def shown_word(name: str, words: Mapping[str, str]) -> str:
-    """A word of a query as it stands in a reason."""
-    return f"{name}={words[name]}"[:LONGEST_WHY]
 
 
 def route_of_several(method: str, first: str, rest: List[str], words: Dict[str, str]) -> Route:
@@ -283,31 +318,38 @@ def route_of_several(method: str, first: str, rest: List[str], words: Dict[str, 
     last = rest[-1] if rest else first
     index = first if rest else ""
     if last == "_mget":
-        is_plain = OF_A_GET.issuperset(words) and words.get("realtime", "true") == "true"
-        return Route(Kind.MULTIPLE_GET, "get", words=words, room=index) if is_plain and method in ("GET", "POST") else PASS
+        is_plain = asks_for_latest(words, OF_A_GET) and method in ("GET", "POST")
+        return Route(Kind.MULTIPLE_GET, "get", words=words, room=index) if is_plain else PASS
     if method not in ("POST", "PUT"):
         return PASS
-    strange = sorted(set(words) - OF_A_BULK)
-    if strange:
-        return Route(Kind.END, why=f"a bulk request with {shown_word(strange[0], words)}")
     return Route(Kind.BULK, words=words, room=index)
 
 
 def route_of_cluster(method: str, first: str, rest: List[str], words: Dict[str, str], names: Names) -> Route:
     """Reads a request that writes something and names no index in its path."""
+    look = look_of([first, *rest], names)
     request = shown_request(method, "/".join(["", first, *rest]))
-    if first == "_snapshot" and "_restore" not in rest or first in HARMLESS:
-        return PASS
-    if first == "_plugins" and rest[:1] == ["_security"]:
-        return PASS
-    if first in ("_aliases", "_reindex"):
-        return Route(Kind.LOOK, words=words, told=(*names.all, "*", "_all", "<"), why=request)
-    return Route(Kind.END, why=request)
+    if look is None:
+        return Route(Kind.END, why=request)
+    return PASS if look is Look.NOTHING else Route(Kind.LOOK, words=words, look=look, why=request)
 
 
-def route_of_expression(method: str, expression: str, rest: List[str]) -> Route:
+def route_on_other(method: str, index: str, rest: List[str], words: Dict[str, str], names: Names) -> Route:
+    """Reads a request that writes something on another index: it may make one by a name of ours, or give it an alias that is one."""
+    word = rest[0] if rest else ""
+    if word not in MAKES_ANOTHER and (word not in NAMES_AN_ALIAS or method not in ("PUT", "POST")):
+        return PASS
+    request = shown_request(method, "/".join(["", index, *rest]))
+    if any(names.may_be_among(it) for it in rest[1:]):
+        return Route(Kind.END, why=request)
+    return Route(Kind.LOOK, words=words, look=Look.NAME, why=request)
+
+
+def route_of_expression(method: str, expression: str, rest: List[str], words: Dict[str, str]) -> Route:
     """Reads a request that writes something on indexes that an expression names, ours perhaps among them."""
     request = shown_request(method, "/".join(["", expression, *rest]))
+    if rest and rest[0] in OF_SETTINGS:
+        return Route(Kind.LOOK, words=words, look=Look.SETTINGS, why=request)
     if rest and rest[0] in HARMLESS_OF_AN_INDEX:
         return PASS
     if rest and rest[0] in ("_update_by_query", "_delete_by_query"):

@@ -1,17 +1,34 @@
 """Checks of a history while it grows: of as much of the file as is whole lines, by the program."""
 
+import contextlib
+import io
 import os
+import re
 import resource
 import signal
 import subprocess
+import tempfile
+import threading
 import time
 from dataclasses import dataclass
-from typing import BinaryIO, Iterator, Sequence
+from typing import IO, BinaryIO, Iterator, Sequence
 
 from .history import LONGEST_LINE
 
 AT_ONCE = 1 << 20
 """How many bytes are handed to the program at once."""
+
+MOST_WRITTEN = 1 << 24
+"""The most bytes that the program may write of a history."""
+
+LONGEST_SHOWN = 300
+"""The most letters of what the program writes that stand in the words of a fault."""
+
+VERDICTS = {"yes": 0, "no": 1, "refuted": 1, "refused": 2}
+"""The exit status of each verdict, by the word with which its line begins."""
+
+VERDICT = re.compile(rf"({'|'.join(VERDICTS)}) [ -~]+\n")
+"""The line of a verdict."""
 
 
 class CheckError(Exception):
@@ -57,17 +74,63 @@ class Snapshot:
 
     def ask(self, words: Sequence[str]) -> Answer:
         """What the program writes that is run with these words, and given the lines on standard input."""
-        before = time.process_time() + seconds_of_children()
+        with open(self.path, "rb") as file:
+            return ask(words, file, self.length)
+
+    def check(self, words: Sequence[str]) -> Answer:
+        """The verdict of a check that is run with these words. Raises CheckError if the program writes anything else."""
+        return verdict(words, self.ask(words))
+
+
+def try_check(words: Sequence[str]) -> None:
+    """Has a text without a line checked. Raises CheckError if the program can't be run, or doesn't answer as a check does."""
+    answer = verdict(words, ask(words, io.BytesIO(), 0))
+    if answer.word != "yes":
+        raise CheckError(f"{words[0]} says of a text without a line: {answer.line[:LONGEST_SHOWN]!r}")
+
+
+def verdict(words: Sequence[str], answer: Answer) -> Answer:
+    """The answer, which is refused with CheckError unless it is one verdict and has its status."""
+    if not VERDICT.fullmatch(answer.text) or VERDICTS[answer.word] != answer.status:
+        raise CheckError(f"{words[0]} ended with status {answer.status} and gave no verdict: {answer.text[:LONGEST_SHOWN]!r}")
+    return answer
+
+
+def ask(words: Sequence[str], file: BinaryIO, length: int) -> Answer:
+    """What the program writes that is run with these words, and given so many bytes of a file on standard input.
+
+    Raises CheckError if it can't be run, writes too much, or ends with a status that no verdict has.
+    """
+    before = time.process_time() + seconds_of_children()
+    with tempfile.TemporaryFile() as fault:
+        told, status = run(words, file, length, fault)
+        if status not in VERDICTS.values() or len(told) > MOST_WRITTEN:
+            fault.seek(0)
+            why = fault.read(LONGEST_SHOWN).decode(errors="replace").strip()
+            raise CheckError(f"{words[0]} {'wrote too much and ' if len(told) > MOST_WRITTEN else ''}ended with status {status}: {why}")
+    seconds = time.process_time() + seconds_of_children() - before
+    return Answer(told.decode(errors="replace"), status, seconds)
+
+
+def run(words: Sequence[str], file: BinaryIO, length: int, fault: IO[bytes]) -> "tuple[bytes, int]":
+    """What the program writes, up to a byte more than it may, and its exit status; it is killed if it writes more."""
+    try:
         # (Ctrl-C is for who watches; it has the check come to its end)
-        pipes = {"stdin": subprocess.PIPE, "stdout": subprocess.PIPE, "stderr": subprocess.PIPE}
-        with subprocess.Popen(words, preexec_fn=ignore_interrupts, **pipes) as program, open(self.path, "rb") as file:
-            assert program.stdin is not None
-            copy(file, program.stdin, self.length)
-            told, fault = program.communicate()
-        seconds = time.process_time() + seconds_of_children() - before
-        if program.returncode not in (0, 1, 2):
-            raise CheckError(f"{words[0]} ended with status {program.returncode}: {fault.decode(errors='replace').strip()}")
-        return Answer(told.decode(errors="replace"), program.returncode, seconds)
+        program = subprocess.Popen(words, stdin=subprocess.PIPE, stdout=subprocess.PIPE, stderr=fault, preexec_fn=ignore_interrupts)
+    except (OSError, subprocess.SubprocessError) as it:
+        raise CheckError(f"{words[0]} can't be run: {it}") from it
+    with program:
+        assert program.stdin is not None and program.stdout is not None
+        # (by a thread: the program may write before it has read all)
+        feeder = threading.Thread(target=copy, args=(file, program.stdin, length), daemon=True)
+        feeder.start()
+        told = program.stdout.read(MOST_WRITTEN + 1)
+        if len(told) > MOST_WRITTEN:
+            program.kill()
+        # (what still writes or reads of it ends then)
+        program.stdout.close()
+        feeder.join()
+    return told, program.returncode
 
 
 def whole_length(file: BinaryIO) -> int:
@@ -80,18 +143,17 @@ def whole_length(file: BinaryIO) -> int:
     return start + end + 1 if end >= 0 or not start else size
 
 
-def copy(file: BinaryIO, to: BinaryIO, length: int) -> None:
-    """Copies so many bytes. A reader that needs no more, since it refuses a line, closes its end."""
-    try:
+def copy(file: BinaryIO, to: IO[bytes], length: int) -> None:
+    """Copies so many bytes, and closes what they go to. A reader that needs no more, since it refuses a line, closes its end."""
+    with contextlib.suppress(BrokenPipeError):
         while length > 0:
             data = file.read(min(AT_ONCE, length))
             if not data:
                 break
             to.write(data)
             length -= len(data)
-        to.flush()
-    except BrokenPipeError:
-        pass
+    with contextlib.suppress(BrokenPipeError):
+        to.close()
 
 
 def seconds_of_children() -> float:

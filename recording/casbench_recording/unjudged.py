@@ -11,12 +11,12 @@ MOST_TOLD = 20
 """How many documents are told at the end; the list has all of them."""
 
 MOST_LISTED = 32 * 1024 * 1024
-"""The most bytes of the list. A recording that needs more of them ends."""
+"""The most bytes of the list. Of documents beyond them it has the number alone."""
 
 
 class Unjudged:
-    """A file beside the history, with a line for each document that isn't judged, from then on or at all, and a last one with how many calls
-    were left out. Without any document there is no file."""
+    """A file beside the history, with a line for each document that isn't judged, from then on or at all; one with how many more there are,
+    if the list is full; and a last one with how many calls were left out. Without any document there is no file."""
 
     def __init__(self, history: str) -> None:
         self.path = f"{history}.not-judged"
@@ -25,14 +25,11 @@ class Unjudged:
         # of the first documents
         self.reasons: Dict[str, str] = {}
         self.count = 0
+        # how many of them have no line
+        self._unlisted = 0
         self.ended: List[str] = []
         self._length = 0
         self._file: Optional[BinaryIO] = None
-
-    @property
-    def is_full(self) -> bool:
-        """Whether the list takes no more documents."""
-        return self._length > MOST_LISTED
 
     def names(self, documents: Iterable[Tuple[str, str]]) -> None:
         """Names documents, each with the reason."""
@@ -41,7 +38,11 @@ class Unjudged:
             if len(self.reasons) < MOST_TOLD:
                 self.reasons[document] = why
             self.count += 1
-            lines.append(f'{{"id": {compact(document)}, "why": {compact(why)}}}')
+            if self._length < MOST_LISTED:
+                lines.append(f'{{"id": {compact(document)}, "why": {compact(why)}}}')
+                self._length += len(lines[-1])
+            else:
+                self._unlisted += 1
         self._write(lines)
 
     def ends(self, why: str) -> None:
@@ -54,14 +55,15 @@ class Unjudged:
         if not lines:
             return
         data = "".join(f"{it}\n" for it in lines).encode()
-        self._length += len(data)
         with contextlib.suppress(OSError):
             if self._file is None:
                 self._file = open(self.path, "ab", buffering=0)
             self._file.write(data)
 
     def close(self, left_out: int = 0) -> None:
-        """Closes the file, if there is one, behind the number of calls that were left out."""
+        """Closes the file, if there is one, behind the numbers of documents that it doesn't list, and of calls that were left out."""
+        if self._unlisted:
+            self._write([json.dumps({"documents": self._unlisted})])
         if self.count and left_out:
             self._write([json.dumps({"calls": left_out})])
         if self._file is not None:

@@ -5,7 +5,8 @@
 It takes the options of a reading, as a check does, and rules documents out. OUT is a history, or a directory of histories. `refuted` is
 final: what refutes the lines so far refutes every history that begins with them. `yes` and `no` are not: docs/RECORDING.md says why. At
 the first `refuted` it prints what `explain` says, runs COMMAND, and exits with status 1. Ctrl-C ends it after a last check. The exit
-status is then that of the worst answer: 0 for `yes`, 1 for `no`, 2 if a text is no history or there is none.
+status is then that of the worst answer: 0 for `yes`, 1 for `no`, 2 if a text is no history or there is none. If a check gives no verdict,
+or lines that were checked are gone, it exits at once with status 4.
 """
 
 import argparse
@@ -19,16 +20,16 @@ import subprocess
 import sys
 import time
 from dataclasses import dataclass
-from typing import Dict, List, Optional, Sequence
+from typing import Dict, List, Optional, Sequence, Tuple
 
 from .cluster import number_from
 from .console import counted, escaped
 from .continuing import GROWING
 from .reading import add_reading_options, reading_of
 from .shrink import ShrinkError, program_at_hand
-from .snapshots import Answer, CheckError, Snapshot
+from .snapshots import Answer, CheckError, Snapshot, try_check
 from .terms import TermReader, Terms
-from .watcher import EVERY
+from .watcher import CAN_NOT_CHECK, EVERY, options_of
 
 REST = 9.0
 """How many times as long as the last check took of a processor the next one waits, so that they take a tenth of one at most."""
@@ -38,14 +39,17 @@ PART = re.compile(r"part-[0-9]+\.ndjson")
 
 
 class Stop:
-    """Ctrl-C, a request to end, or the end of standard input: the next round is the last one. A second signal ends at once."""
+    """Ctrl-C, a request to end, or the end of standard input: the next round is the last one. A second signal ends at once.
+
+    If standard input is heeded its end is the only request: SIGTERM ends the watch at once then, without an answer.
+    """
 
     def __init__(self, heeds_input: bool) -> None:
         self.is_set = False
         self._wake, self._woken = os.pipe()
         self._sources = [self._wake, *([sys.stdin.fileno()] if heeds_input else [])]
-        for kind in (signal.SIGINT, signal.SIGTERM):
-            # (a recorder that runs this in its process group has Ctrl-C ignored here)
+        for kind in (signal.SIGINT, *([] if heeds_input else [signal.SIGTERM])):
+            # (the background jobs of a shell ignore Ctrl-C)
             if signal.getsignal(kind) is not signal.SIG_IGN:
                 signal.signal(kind, self._ask)
 
@@ -66,11 +70,14 @@ class Stop:
 
 @dataclass
 class Watched:
-    """A history that is watched: what reads its terms, how many bytes of it were checked last, the answer, and whether it is deleted."""
+    """A history that is watched: what reads its terms, how many bytes of it were checked last, the answer, whether that was printed as
+    the one of a finished part, whether it was finished then, so that it may be deleted, and whether it is deleted."""
 
     terms: TermReader
     length: int = 0
     answer: Optional[Answer] = None
+    is_told: bool = False
+    is_finished: bool = False
     is_deleted: bool = False
 
 
@@ -84,20 +91,22 @@ class Watch:
         # by the name of a history, those of all parts together
         self.terms: Dict[str, Terms] = {}
         self._program = setting.program or program_at_hand()
-        self._options = ["--rule-out", *reading_of(setting).words()]
+        self._options = options_of(reading_of(setting))
         # (no check begins before this moment)
         self._rests_until = 0.0
 
     def run(self) -> int:
-        """Checks until the end is asked for, or a history is refuted; returns the exit status."""
+        """Checks until the end is asked for, or a history is refuted; returns the exit status. Raises CheckError if it can't check."""
+        try_check([self._program, "check", *self._options])
         while True:
             is_last, began = self.stop.is_set, time.monotonic()
             for path in self.paths():
                 refuted = self.check(path, is_last)
                 if refuted is not None:
-                    return self.tell_refuted(refuted)
+                    return self.tell_refuted(*refuted)
                 if self.stop.is_set and not is_last:
                     break
+            self.refuse_losses()
             if is_last:
                 return self.tell_end()
             self.stop.wait_until(began + self.setting.every)
@@ -109,17 +118,27 @@ class Watch:
             return [out] if os.path.exists(out) else []
         return sorted(os.path.join(out, it) for it in os.listdir(out) if it.endswith((".ndjson", f".ndjson{GROWING}")))
 
-    def check(self, path: str, is_last: bool) -> Optional[Snapshot]:
-        """Checks a file if it has grown; returns the lines that were checked if they are refuted."""
-        name = path[: -len(GROWING)] if path.endswith(GROWING) else path
-        watched = self.watched(name)
+    def refuse_losses(self) -> None:
+        """Raises CheckError if lines that were checked are gone. A finished part may be deleted, once it was checked as one."""
+        checked = {name: it for name, it in self.histories.items() if it.length}
+        lost = [name for name, it in checked.items() if not it.is_finished and not is_there(name)]
+        if checked and not is_there(name_of(self.setting.out)):
+            lost = [self.setting.out]
+        if lost:
+            raise CheckError(f"{lost[0]} was removed while it was watched")
+
+    def check(self, path: str, is_last: bool) -> Optional[Tuple[Snapshot, str]]:
+        """Checks a file if it has grown; returns the lines that were checked if they are refuted, and the line of that verdict."""
+        watched = self.watched(name_of(path))
         # (a part that is finished meanwhile has another name, and has its turn in the next round)
         with contextlib.suppress(FileNotFoundError):
             snapshot = Snapshot(path)
-            if snapshot.length not in (0, watched.length):
+            if snapshot.length < watched.length:
+                raise CheckError(f"{path} was cut off while it was watched")
+            if snapshot.length != watched.length:
                 if not is_last:
                     self.stop.wait_until(self._rests_until)
-                watched.answer = snapshot.ask([self._program, "check", *self._options])
+                watched.answer = snapshot.check([self._program, "check", *self._options])
                 watched.length = snapshot.length
                 self.rest_for(watched.answer.seconds)
                 self.tell_check(path, watched.answer)
@@ -128,7 +147,9 @@ class Watch:
                 watched.terms.read(snapshot.lines_from(watched.terms.length))
                 self.rest_for(time.process_time() - before)
                 if watched.answer.word == "refuted":
-                    return snapshot
+                    return snapshot, watched.answer.line
+            watched.is_finished = is_finished(path)
+            self.tell_finished(path, watched)
             self.delete_if_done(path, watched)
         return None
 
@@ -145,8 +166,7 @@ class Watch:
 
     def delete_if_done(self, path: str, watched: Watched) -> None:
         """Deletes a finished part that got `yes`, if that is asked for."""
-        is_part = self.setting.delete_parts and PART.fullmatch(os.path.basename(path))
-        if is_part and watched.answer is not None and watched.answer.word == "yes":
+        if self.setting.delete_parts and is_finished(path) and watched.answer is not None and watched.answer.word == "yes":
             os.remove(path)
             watched.is_deleted = True
 
@@ -159,12 +179,31 @@ class Watch:
             # (a recorder may have a line on its progress there, which it writes again)
             print(f"\r\x1b[K{time.strftime('%H:%M:%S')}  {name}{answer.line}  ({answer.seconds:.2f} s)", flush=True)
 
-    def tell_refuted(self, snapshot: Snapshot) -> int:
-        """Prints what `explain` says, runs the command, and returns the exit status."""
-        if len(self.histories) > 1 or snapshot.path != self.setting.out:
-            print(f"{escaped(snapshot.path)}:")
-        print(snapshot.ask([self._program, "explain", *self._options]).text, end="", flush=True)
-        self.tell_beside()
+    def tell_finished(self, path: str, watched: Watched) -> None:
+        """Prints a line on a finished part, once, if there is no terminal."""
+        if is_finished(path) and watched.answer is not None and not watched.is_told and not sys.stdout.isatty():
+            watched.is_told = True
+            print(f"{escaped(os.path.basename(path))}: {watched.answer.line}", flush=True)
+
+    def tell_refuted(self, snapshot: Snapshot, line: str) -> int:
+        """Prints what `explain` says, or else the line of the verdict; runs the command, and returns the exit status.
+
+        The verdict stands, whatever else fails.
+        """
+        try:
+            explained = snapshot.ask([self._program, "explain", *self._options]).text
+        except (CheckError, OSError) as fault:
+            tell_fault(str(fault))
+            explained = ""
+        try:
+            if len(self.histories) > 1 or snapshot.path != self.setting.out:
+                print(f"{escaped(snapshot.path)}:")
+            print(explained if explained.startswith(f"{line}\n") else f"{line}\n", end="", flush=True)
+            self.tell_beside()
+        except OSError as fault:
+            # (nobody reads it any more)
+            tell_fault(str(fault))
+            os.dup2(os.open(os.devnull, os.O_WRONLY), sys.stdout.fileno())
         if self.setting.command:
             run_command(self.setting.command)
         return 1
@@ -173,7 +212,7 @@ class Watch:
         """Prints the last answers, and returns the exit status."""
         answers = [it.answer for it in self.histories.values() if it.answer is not None]
         if not answers:
-            print(f"casbench_recording.watch: there is nothing to check in {escaped(self.setting.out)}", file=sys.stderr)
+            tell_fault(f"there is nothing to check in {escaped(self.setting.out)}")
             return 2
         if os.path.isdir(self.setting.out):
             counts = ", ".join(f"{sum(it.word == word for it in answers)} {word}" for word in ("yes", "no", "refused"))
@@ -193,6 +232,26 @@ class Watch:
         tell_unjudged(self.setting.out)
 
 
+def tell_fault(text: str) -> None:
+    """Writes a line on standard error."""
+    print(f"casbench_recording.watch: {text}", file=sys.stderr)
+
+
+def name_of(path: str) -> str:
+    """The path of a history, without the suffix of a part that grows."""
+    return path[: -len(GROWING)] if path.endswith(GROWING) else path
+
+
+def is_there(name: str) -> bool:
+    """Whether a history is there, growing or finished. (One that is finished between the two looks is found by the second.)"""
+    return os.path.exists(name + GROWING) or os.path.exists(name)
+
+
+def is_finished(path: str) -> bool:
+    """Whether a file is a finished part of a recording without end."""
+    return PART.fullmatch(os.path.basename(path)) is not None
+
+
 def tell_unjudged(out: str) -> None:
     """Prints how much isn't judged, by the list beside a proxy's recording, and why it ended early, if it did.
 
@@ -201,6 +260,7 @@ def tell_unjudged(out: str) -> None:
     with contextlib.suppress(FileNotFoundError), open(f"{out}.not-judged", encoding="utf-8") as lines:
         listed = [json.loads(it) for it in lines if it.endswith("\n")]
         count, calls = sum("id" in it for it in listed), sum(it.get("calls", 0) for it in listed)
+        count += sum(it.get("documents", 0) for it in listed)
         if count:
             left_out = f", {counted(calls, 'call')}" if calls else ""
             print(f"not judged: {counted(count, 'document')}{left_out}, listed in {escaped(lines.name)}", flush=True)
@@ -217,7 +277,7 @@ def run_command(command: Sequence[str]) -> None:
     except OSError as it:
         fault = f"can't be run: {it.strerror}"
     if fault:
-        print(f"casbench_recording.watch: {escaped(' '.join(command))} {fault}", file=sys.stderr)
+        tell_fault(f"{escaped(' '.join(command))} {fault}")
 
 
 # The command line
@@ -251,10 +311,14 @@ def main(arguments: Optional[Sequence[str]] = None) -> int:
     try:
         return Watch(setting, Stop(setting.until_closed)).run()
     except (CheckError, ShrinkError, OSError) as fault:
-        print(f"casbench_recording.watch: {fault}", file=sys.stderr)
-        return 4
+        tell_fault(escaped(str(fault)))
+        return CAN_NOT_CHECK
     except KeyboardInterrupt:
         return 130
+    except Exception as fault:
+        # (with the status of a fault, and not with that of a verdict, which Python would take)
+        tell_fault(f"a fault of the watch: {escaped(repr(fault))}")
+        return CAN_NOT_CHECK
 
 
 if __name__ == "__main__":
