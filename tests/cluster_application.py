@@ -6,9 +6,11 @@ by turns, tries nothing again that it got no answer to, and goes on to the next 
 """
 
 import contextlib
+import gzip
 import http.client
 import itertools
 import json
+import math
 import random
 import threading
 import time
@@ -25,17 +27,18 @@ INDEX = "carts"
 
 
 class Load(NamedTuple):
-    """What the application does: on how many documents, which of them it updates in part, which turns it takes, from
+    """What the application does: on how many documents, the first of which it updates in part, which turns it takes, from
     which of the nodes it reads and to which it writes, all if none is named, for how many seconds at least and how many
-    turns."""
+    turns; after how many seconds it goes on to new documents; and in which coding it takes answers."""
 
     documents: int
     turns: str
-    updated: str = "d0"
     readers: tuple = ()
     writers: tuple = ()
     seconds: float = 3.0
     least: int = 300
+    renewed: float = math.inf
+    coding: str = "identity"
 
 
 class Application:
@@ -45,11 +48,12 @@ class Application:
         self.ports, self.load, self.seed = ports, load, seed
         self.turns, self.answers = itertools.count(), itertools.count()
         self.values = itertools.count(1)
-        self.ends = None
+        self.began = self.ends = None
 
     def run(self):
         """Works as long as it is asked to; returns how many requests were answered."""
-        self.ends = time.monotonic() + self.load.seconds
+        self.began = time.monotonic()
+        self.ends = self.began + self.load.seconds
         threads = [threading.Thread(target=Worker(self, f"{self.seed}/{it}").run) for it in range(THREADS)]
         for it in threads:
             it.start()
@@ -60,6 +64,14 @@ class Application:
     def is_over(self):
         """Whether no more turns are made; otherwise there is one more."""
         return next(self.turns) >= self.load.least and time.monotonic() >= self.ends
+
+    def stop(self):
+        """Has it make no more turns, if it made as many as it has to."""
+        self.ends = self.began
+
+    def first(self):
+        """The number of the first of the documents that it works on now."""
+        return int((time.monotonic() - self.began) / self.load.renewed) * self.load.documents
 
 
 class Worker:
@@ -80,7 +92,11 @@ class Worker:
             for it in self.connections:
                 stack.callback(it.close)
             while not self.application.is_over():
-                getattr(self, self.draw.choice(turns))(f"d{self.draw.randrange(self.load.documents)}")
+                getattr(self, self.draw.choice(turns))(self.document())
+
+    def document(self):
+        """One of the documents."""
+        return f"d{self.application.first() + self.draw.randrange(self.load.documents)}"
 
     # Requests
 
@@ -90,9 +106,10 @@ class Worker:
         connection = self.connections[nodes[self.place % len(nodes)]]
         text = body if body is None or isinstance(body, bytes) else json.dumps(body).encode()
         try:
-            connection.request(method, f"/{INDEX}/{target}", text, {"Content-Type": "application/json"})
+            connection.request(method, f"/{INDEX}/{target}", text, {"Content-Type": "application/json", "Accept-Encoding": self.load.coding})
             answer = connection.getresponse()
-            value = json.loads(answer.read())
+            content = answer.read()
+            value = json.loads(gzip.decompress(content) if answer.getheader("Content-Encoding") == "gzip" else content)
         except (OSError, ValueError, http.client.HTTPException):
             connection.close()
             self.place += 1
@@ -134,18 +151,18 @@ class Worker:
         """Updates a part of one document: of a source that is written so no recorder knows the whole."""
         count = next(self.application.values)
         body = {"doc": {"count": count}, "upsert": {"count": count}}
-        self.ask("POST", f"_update/{self.load.updated}?retry_on_conflict=1", body)
+        self.ask("POST", f"_update/d{self.application.first()}?retry_on_conflict=1", body)
 
     def delete(self, id):
         self.ask("DELETE", f"_doc/{id}")
 
     def mget(self, id):
-        self.ask("POST", "_mget", {"ids": [id, f"d{self.draw.randrange(self.load.documents)}"]})
+        self.ask("POST", "_mget", {"ids": [id, self.document()]})
 
     def bulk(self, id):
         lines = []
         for _ in range(3):
             action = self.draw.choice(["index", "index", "create", "delete"])
-            lines.append({action: {"_id": f"d{self.draw.randrange(self.load.documents)}"}})
+            lines.append({action: {"_id": self.document()}})
             lines += [self.source()] if action != "delete" else []
         self.ask("POST", "_bulk", b"".join(json.dumps(it).encode() + b"\n" for it in lines))

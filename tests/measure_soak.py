@@ -1,0 +1,360 @@
+#!/usr/bin/env python3
+"""Measures a long recording: an application that works behind nginx and the proxy, on a stand-in of three nodes that is disturbed, and now and then
+goes wrong.
+
+    python3 tests/measure_soak.py PROGRAM [--minutes 30] [--every 5] [--keep FOLDER]
+
+PROGRAM is the built casbench. Each phase has a stand-in of its own, and is recorded in parts, with a watch every so many seconds. nginx packs
+answers, and sends a request again to the next address of the proxy after an error or a second without an answer. In one phase the proxy is killed,
+and another one records the index anew. A table at the end has of each phase what the watch and a check of each part under the profile say, how many
+seconds lie between the first answer by which a fault is proved and the line of the watch, and the memory of the proxy. The first such answer is the
+last line of the shortest beginning of a part that is refuted.
+
+The exit status is 1 if a healthy cluster is accused, if a fault isn't reported within two rounds of the watch, or if the memory grows. With --keep
+the recordings are kept in a folder that is made.
+"""
+
+import argparse
+import contextlib
+import itertools
+import json
+import os
+import pathlib
+import re
+import shutil
+import socket
+import statistics
+import subprocess
+import sys
+import tempfile
+import threading
+import time
+from typing import NamedTuple
+
+from attacks import megabytes
+from cluster_application import Application
+from recorded_cluster import FAULTS, NODES, READS, addresses
+from recordings import Started
+
+# How many calls a part has; how long what was asked of a proxy that is killed may last, in seconds; how long nginx waits for an answer; and after how
+# many seconds a phase with a fault ends that isn't reported.
+PART, SETTLE, PATIENCE, LONGEST_FAULT = 20_000, 10, "1s", 90
+
+# How many seconds a recording warms up, and by how many MiB its memory may grow then.
+WARM_UP, MOST_GROWN = 60, 2.0
+
+KILL = "--kill-every 4 --lasting 2"
+PAUSE = "--pause-every 4 --lasting 3 --detection 0.8 --spare 1"
+BOTH = "--kill-every 5 --pause-every 7 --lasting 2 --detection 0.8 --spare 1"
+
+# What the application does on a healthy cluster: it goes on to new documents now and then, and takes packed answers.
+LONG = READS._replace(documents=12, renewed=20.0, coding="gzip", least=0, seconds=1e9)
+
+
+class Phase(NamedTuple):
+    """A phase: its name, the options of the stand-in, what the application does, which part of the time it takes, whether all is read from the
+    first node, whether the proxy is killed in its middle, and the pattern of the evidence if the cluster goes wrong."""
+
+    name: str
+    words: str
+    share: float = 0.0
+    load: object = LONG
+    reads_the_first: bool = False
+    is_killed: bool = False
+    evidence: str = ""
+
+
+def faulty(name, words, row):
+    """A phase with a fault, of which the evidence is that of a row of the matrix."""
+    return Phase(name, words, load=FAULTS[row].load._replace(least=0, seconds=1e9, coding="gzip"), evidence=FAULTS[row].profile)
+
+
+PHASES = [
+    Phase("kill", f"--lag 0.05 {KILL}", 0.15),
+    faulty("lost-writes, kill", "--fault lost-writes --every 40 --kill-every 7 --lasting 2", "lost-writes, kill"),
+    Phase("pause", f"--lag 0.05 {PAUSE}", 0.15, reads_the_first=True),
+    faulty("lost-update, kill", f"--fault lost-update --every 50 {KILL}", "lost-update, kill"),
+    Phase("kill, pause, proxy killed", BOTH, 0.25, reads_the_first=True, is_killed=True),
+    faulty("pair-twice, kill", f"--fault pair-twice --every 1500 {KILL}", "pair-twice, kill"),
+    Phase("kill, proxy killed", f"--shards 2 {KILL}", 0.15, is_killed=True),
+    faulty("lagging-copy, kill", "--fault lagging-copy --every 300 --kill-every 15 --lasting 2", "lagging-copy, kill"),
+    Phase("kill, pause", f"--lag 0.05 {BOTH}", 0.2, reads_the_first=True),
+]
+
+
+class Said:
+    """What a stream says: its lines, each with the moment at which it came."""
+
+    def __init__(self, stream):
+        self.lines = []
+        self.thread = threading.Thread(target=self.read, args=(stream,), daemon=True)
+        self.thread.start()
+
+    def read(self, stream):
+        with contextlib.suppress(ValueError):
+            for line in stream:
+                self.lines.append((time.time(), line.rstrip("\n")))
+
+    def first(self, pattern):
+        """The first line that begins with a pattern, with its moment, or None."""
+        return next((it for it in list(self.lines) if re.match(pattern, it[1])), None)
+
+
+def free_ports(count):
+    """Ports that are free."""
+    with contextlib.ExitStack() as stack:
+        sockets = [stack.enter_context(socket.create_server(("127.0.0.1", 0))) for _ in range(count)]
+        return [it.getsockname()[1] for it in sockets]
+
+
+SERVER = """server {{
+    listen 127.0.0.1:{port};
+    location / {{
+      proxy_pass http://{name}; proxy_http_version 1.1; proxy_set_header Connection ""; {more}
+      proxy_connect_timeout {patience}; proxy_read_timeout {patience}; proxy_next_upstream error timeout non_idempotent;
+    }}
+  }}
+"""
+
+NGINX = """daemon off; pid {folder}/pid; error_log {folder}/error.log; {user} worker_processes 1;
+events {{ worker_connections 512; }}
+http {{
+  client_body_temp_path {folder}/body; proxy_temp_path {folder}/proxy; fastcgi_temp_path {folder}/fastcgi;
+  uwsgi_temp_path {folder}/uwsgi; scgi_temp_path {folder}/scgi;
+  log_format short '$status $gzip_ratio $sent_http_content_encoding $upstream_addr'; access_log {folder}/access.log short;
+  gzip on; gzip_types application/json; gzip_min_length 20; gzip_proxied any;
+  upstream all {{ {all} keepalive 16; }}
+  upstream first {{ {first} keepalive 16; }}
+  {servers}
+}}
+"""
+
+
+class Nginx:
+    """nginx before the addresses of the proxy: a port that leads to all of them, and one that leads to the first."""
+
+    def __init__(self, folder, proxies):
+        self.folder = pathlib.Path(folder)
+        self.all, self.first = free_ports(2)
+        rows = [f"server 127.0.0.1:{it} max_fails=0;" for it in proxies]
+        # (the cluster packs the answers of the one itself, and those of the other one are packed by nginx)
+        servers = SERVER.format(port=self.all, name="all", more="", patience=PATIENCE)
+        servers += SERVER.format(port=self.first, name="first", more='proxy_set_header Accept-Encoding "";', patience=PATIENCE)
+        user = "user root;" if os.getuid() == 0 else ""
+        text = NGINX.format(folder=folder, user=user, all=" ".join(rows), first=rows[0], servers=servers)
+        (self.folder / "nginx.conf").write_text(text)
+
+    def __enter__(self):
+        self.process = subprocess.Popen([shutil.which("nginx") or "/usr/sbin/nginx", "-p", self.folder, "-c", self.folder / "nginx.conf"])
+        return self
+
+    def __exit__(self, *_):
+        self.process.terminate()
+        self.process.wait()
+
+    def counts(self):
+        """How many answers it gave, how many were packed by it, how many came packed, and how many requests it sent again."""
+        rows = [it.split(" ", 3) for it in (self.folder / "access.log").read_text().splitlines()]
+        packed = sum(it[1] != "-" for it in rows)
+        return len(rows), packed, sum(it[2] == "gzip" for it in rows) - packed, sum("," in it[3] for it in rows)
+
+
+class Recording:
+    """A proxy that records a cluster in parts, with its watch."""
+
+    def __init__(self, setting, out, ports, nodes, *words):
+        self.out = out
+        first, *others = [f"127.0.0.1:{it}" for it in ports]
+        more = [it for at, url in zip(others, nodes[1:]) for it in ("--node", f"{at}={url}")]
+        watch = ["--watch", "--every", str(setting.every), "--program", setting.program, "--part", str(PART)]
+        self.proxy = Started("proxy", "--listen", first, "--cluster", nodes[0], *more, "--index", "carts", *watch, *words, str(out))
+        if self.proxy.port is None:
+            raise AssertionError(f"the proxy doesn't start: {self.proxy.url}")
+        addresses(self.proxy, len(others))
+        self.printed, self.told = Said(self.proxy.process.stdout), Said(self.proxy.process.stderr)
+        self.began, self.memory = time.monotonic(), []
+
+    @property
+    def refuted(self):
+        """The line by which the watch refuted it, with its moment, or None."""
+        return self.printed.first("refuted ")
+
+    def sample(self):
+        """Takes the memory of the proxy now, unless it ended."""
+        if self.proxy.process.poll() is None:
+            with contextlib.suppress(OSError, TypeError):
+                self.memory.append((time.monotonic() - self.began, megabytes(self.proxy, "VmRSS")))
+
+    def end(self):
+        """Ends it, unless it ended; returns what it says at its end."""
+        if self.proxy.process.poll() is None:
+            self.proxy.process.terminate()
+        self.proxy.process.wait(timeout=120)
+        for it in (self.printed, self.told):
+            it.thread.join(60)
+        return [line for _, line in [*self.told.lines, *self.printed.lines] if not line.startswith("part-")]
+
+    def kill(self):
+        """Kills the proxy at once."""
+        self.proxy.process.kill()
+        self.proxy.process.wait()
+
+    def grown(self):
+        """The memory behind the warm-up and at the end, the middle of several samples each, in MiB; None if it was too short."""
+        warm = [mebibytes for moment, mebibytes in self.memory if moment >= WARM_UP]
+        if len(warm) < WARM_UP:
+            return None
+        count = len(warm) // 4
+        return statistics.median(warm[:count]), statistics.median(warm[-count:])
+
+
+def checked(program, text):
+    """What the program says of a text under the profile."""
+    return subprocess.run([program, "check", "--profile", "opensearch"], input=text, stdout=subprocess.PIPE).stdout.decode().strip()
+
+
+def parts_of(out):
+    """The lines of the parts of a recording, by their names."""
+    files = sorted(it for it in pathlib.Path(out).glob("part-*")) if os.path.isdir(out) else []
+    return {it.name: it.read_bytes().splitlines(keepends=True) for it in files}
+
+
+def first_shown(program, lines):
+    """The moment of the last line of the shortest beginning of a part that is refuted, in seconds, or None if none is."""
+    is_refuted = lambda count: checked(program, b"".join(lines[:count])).startswith("refuted")
+    if not is_refuted(len(lines)):
+        return None
+    least, most = 0, len(lines)
+    while most - least > 1:
+        middle = (least + most) // 2
+        least, most = (least, middle) if is_refuted(middle) else (middle, most)
+    return json.loads(lines[most - 1])["t"] / 1000
+
+
+class Row(NamedTuple):
+    """What is found of a recording."""
+
+    name: str
+    seconds: float
+    calls: int
+    answers: str
+    watch: str
+    delay: str
+    memory: str
+    faults: tuple = ()
+
+
+class Soak:
+    """The phases, one after the other."""
+
+    def __init__(self, setting, folder):
+        self.setting, self.folder = setting, pathlib.Path(folder)
+        self.ports = free_ports(NODES)
+        self.numbers = itertools.count(1)
+        self.rows = []
+
+    def run(self):
+        with Nginx(self.folder, self.ports) as self.nginx:
+            for phase in PHASES:
+                self.run_phase(phase)
+            answers, packed, came_packed, again = self.nginx.counts()
+        print(f"nginx: {answers} answers, {packed} packed by it, {came_packed} by the cluster, {again} sent again")
+
+    def run_phase(self, phase):
+        """Runs a phase, whose recordings become rows."""
+        with Started("stand_in", "--port", "0", "--nodes", str(NODES), "--replicas", str(NODES - 1), *phase.words.split()) as store:
+            nodes = [store.url, *addresses(store, NODES - 1)]
+            Said(store.process.stderr)
+            store.make("carts")
+            load = phase.load._replace(readers=(int(phase.reads_the_first),), writers=(0,))
+            application = Application([self.nginx.all, self.nginx.first], load, phase.name)
+            recordings = [self.begin(nodes)]
+            at_work = threading.Thread(target=application.run)
+            at_work.start()
+            try:
+                self.wait(phase, recordings[0])
+                if phase.is_killed:
+                    recordings[0].kill()
+                    recordings.append(self.begin(nodes, "--created-only", "--settle", str(SETTLE)))
+                    self.wait(phase, recordings[1])
+            finally:
+                application.stop()
+                at_work.join()
+                said = [it.end() for it in recordings]
+        for number, it in enumerate(recordings):
+            self.rows.append(self.row(phase, it, f"{phase.name}{' (2)' if number else ''}"))
+            print_row(self.rows[-1])
+            print("".join(f"  {line}\n" for line in said[number][-12:]), end="", flush=True)
+
+    def begin(self, nodes, *words):
+        """A recording that begins."""
+        return Recording(self.setting, self.folder / f"recording-{next(self.numbers)}", self.ports, nodes, *words)
+
+    def wait(self, phase, recording):
+        """Waits until a recording has lasted as long as it is to, or is refuted."""
+        seconds = LONGEST_FAULT if phase.evidence else phase.share * self.setting.minutes * 60 / (1 + phase.is_killed)
+        while time.monotonic() < recording.began + seconds and recording.refuted is None and recording.proxy.process.poll() is None:
+            recording.sample()
+            time.sleep(0.5)
+
+    def row(self, phase, recording, name):
+        """What is found of a recording."""
+        parts = parts_of(recording.out)
+        answers = [checked(self.setting.program, b"".join(it)) for it in parts.values()]
+        words = [it.split(" ")[0] for it in answers]
+        refuted, faults = recording.refuted, []
+        calls = sum(it.count(b'"e":"call"') for lines in parts.values() for it in lines)
+        if phase.evidence:
+            delay, more = self.delay(phase, refuted, parts)
+            faults += more
+        else:
+            delay = ""
+            if refuted is not None or set(words) - {"yes"}:
+                faults.append(f"{name}: a healthy cluster isn't explained: {refuted and refuted[1]}; {[it for it in answers if not it.startswith('yes')]}")
+        grown = recording.grown()
+        if grown is not None and grown[1] - grown[0] > MOST_GROWN:
+            faults.append(f"{name}: the memory grew from {grown[0]:.1f} to {grown[1]:.1f} MiB")
+        memory = f"{grown[0]:.1f} -> {grown[1]:.1f}" if grown else f"({recording.memory[-1][1]:.1f})" if recording.memory else "-"
+        counts = ", ".join(f"{words.count(it)} {it}" for it in sorted(set(words)))
+        watch = refuted[1].split(" calls=")[0] if refuted else "-"
+        return Row(name, recording.memory[-1][0] if recording.memory else 0.0, calls, counts, watch, delay, memory, tuple(faults))
+
+    def delay(self, phase, refuted, parts):
+        """How long it took until a fault was reported, and what is wrong with that."""
+        if refuted is None or not re.match(phase.evidence, f"{refuted[1]} "):
+            return "-", [f"{phase.name}: the watch reported {refuted and refuted[1]}"]
+        shown = min(filter(None, (first_shown(self.setting.program, it) for it in parts.values())), default=None)
+        seconds = refuted[0] - shown
+        late = [f"{phase.name}: reported after {seconds:.1f} s"] if seconds > 2 * self.setting.every else []
+        return f"{seconds:.1f}", late
+
+
+def print_row(row):
+    """Prints a line of the table."""
+    cells = [f"{row.name:27}", f"{row.seconds:5.0f} s", f"{row.calls:7} calls", f"{row.answers:22}", f"{row.watch:26}", f"{row.delay:>5}", row.memory]
+    print("  ".join(cells), flush=True)
+
+
+def main():
+    parser = argparse.ArgumentParser()
+    parser.add_argument("program", type=os.path.realpath)
+    parser.add_argument("--minutes", type=float, default=30.0)
+    parser.add_argument("--every", type=float, default=5.0)
+    parser.add_argument("--keep", metavar="FOLDER")
+    setting = parser.parse_args()
+    with contextlib.ExitStack() as stack:
+        if setting.keep:
+            os.mkdir(setting.keep)
+        soak = Soak(setting, os.path.realpath(setting.keep or stack.enter_context(tempfile.TemporaryDirectory(prefix="casbench-soak-"))))
+        soak.run()
+    print("\nphase, its time, calls, what each part gets under the profile, the watch, seconds to its report, MiB of the proxy behind the warm-up and at the end")
+    for it in soak.rows:
+        print_row(it)
+    faults = [fault for it in soak.rows for fault in it.faults]
+    for it in faults:
+        print(f"wrong: {it}")
+    return 1 if faults else 0
+
+
+if __name__ == "__main__":
+    sys.exit(main())
