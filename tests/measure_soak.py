@@ -6,12 +6,13 @@ goes wrong.
 
 PROGRAM is the built casbench. Each phase has a stand-in of its own, and is recorded in parts, with a watch every so many seconds. nginx packs
 answers, and sends a request again to the next address of the proxy after an error or a second without an answer. In one phase the proxy is killed,
-and another one records the index anew. A table at the end has of each phase what the watch and a check of each part under the profile say, how many
-seconds lie between the first answer by which a fault is proved and the line of the watch, and the memory of the proxy. The first such answer is the
-last line of the shortest beginning of a part that is refuted.
+and another one records the index anew. A table at the end has of each recording what the watch and a check of each part under the profile say, how
+many seconds lie between the first answer by which a fault is proved and the line of the watch, and the memory of the proxy. The first such answer is
+the last line of the shortest beginning of a part that is refuted. The memory is judged behind so many requests that the proxy remembers as many texts
+as it ever does; recordings with fewer have theirs in brackets.
 
-The exit status is 1 if a healthy cluster is accused, if a fault isn't reported within two rounds of the watch, or if the memory grows. With --keep
-the recordings are kept in a folder that is made.
+The exit status is 1 if a healthy cluster is accused or isn't explained, if a fault isn't reported within two rounds of the watch, or if the memory
+grows or no recording was long enough to judge it. With --keep the recordings are kept in a folder that is made.
 """
 
 import argparse
@@ -29,56 +30,58 @@ import sys
 import tempfile
 import threading
 import time
-from typing import NamedTuple
+from typing import NamedTuple, Sequence
 
 from attacks import megabytes
-from cluster_application import Application
-from recorded_cluster import FAULTS, NODES, READS, addresses
+from cluster_application import Application, Load
+from recorded_cluster import FAULTS, NODES, READS, WRITES, addresses
 from recordings import Started
 
-# How many calls a part has; how long what was asked of a proxy that is killed may last, in seconds; how long nginx waits for an answer; and after how
-# many seconds a phase with a fault ends that isn't reported.
-PART, SETTLE, PATIENCE, LONGEST_FAULT = 20_000, 10, "1s", 90
+# How many calls a part has; how long what was asked of a proxy that is killed may last, in seconds; how long nginx waits for an answer; how many
+# seconds a recording lasts at least; and after how many one of a fault ends that isn't reported.
+PART, SETTLE, PATIENCE, LEAST, LONGEST_FAULT = 20_000, 10, "1s", 30, 90
 
-# How many seconds a recording warms up, and by how many MiB its memory may grow then.
-WARM_UP, MOST_GROWN = 60, 2.0
+# How many requests a recording warms up: the proxy remembers 8,192 lines of requests, and one in five has a condition, which is always another one.
+# Then by how many MiB its memory may grow, and how many samples of it there are at least.
+WARM_UP, MOST_GROWN, LEAST_SAMPLES = 45_000, 2.0, 40
 
 KILL = "--kill-every 4 --lasting 2"
 PAUSE = "--pause-every 4 --lasting 3 --detection 0.8 --spare 1"
 BOTH = "--kill-every 5 --pause-every 7 --lasting 2 --detection 0.8 --spare 1"
 
 # What the application does on a healthy cluster: it goes on to new documents now and then, and takes packed answers.
-LONG = READS._replace(documents=12, renewed=20.0, coding="gzip", least=0, seconds=1e9)
+LONG = WRITES._replace(documents=12, renewed=10.0, coding="gzip", least=0, seconds=1e9)
+READS_MORE = LONG._replace(documents=3, turns=READS.turns)
 
 
 class Phase(NamedTuple):
-    """A phase: its name, the options of the stand-in, what the application does, which part of the time it takes, whether all is read from the
-    first node, whether the proxy is killed in its middle, and the pattern of the evidence if the cluster goes wrong."""
+    """A phase: its name, the options of the stand-in, which part of the time it takes, what the application does, whether all is read from the
+    first node, whether the proxy is killed in its middle, and whether the cluster goes wrong."""
 
     name: str
     words: str
     share: float = 0.0
-    load: object = LONG
+    load: Load = LONG
     reads_the_first: bool = False
     is_killed: bool = False
-    evidence: str = ""
+    is_faulty: bool = False
 
 
-def faulty(name, words, row):
-    """A phase with a fault, of which the evidence is that of a row of the matrix."""
-    return Phase(name, words, load=FAULTS[row].load._replace(least=0, seconds=1e9, coding="gzip"), evidence=FAULTS[row].profile)
+def faulty(row, words):
+    """A phase with a fault, in which the application does what it does in a row of the matrix."""
+    return Phase(row, words, load=FAULTS[row].load._replace(least=0, seconds=1e9, coding="gzip"), is_faulty=True)
 
 
 PHASES = [
-    Phase("kill", f"--lag 0.05 {KILL}", 0.15),
-    faulty("lost-writes, kill", "--fault lost-writes --every 40 --kill-every 7 --lasting 2", "lost-writes, kill"),
-    Phase("pause", f"--lag 0.05 {PAUSE}", 0.15, reads_the_first=True),
-    faulty("lost-update, kill", f"--fault lost-update --every 50 {KILL}", "lost-update, kill"),
-    Phase("kill, pause, proxy killed", BOTH, 0.25, reads_the_first=True, is_killed=True),
-    faulty("pair-twice, kill", f"--fault pair-twice --every 1500 {KILL}", "pair-twice, kill"),
+    Phase("kill, pause", f"--lag 0.05 {BOTH}", 0.15, READS_MORE, reads_the_first=True),
+    faulty("lost-writes, kill", "--fault lost-writes --every 40 --kill-every 7 --lasting 2"),
+    Phase("pause", f"--lag 0.05 {PAUSE}", 0.1, READS_MORE, reads_the_first=True),
+    faulty("lost-update, kill", f"--fault lost-update --every 50 {KILL}"),
+    Phase("kill, pause, proxy killed", BOTH, 0.2, reads_the_first=True, is_killed=True),
+    faulty("pair-twice, kill", f"--fault pair-twice --every 1000 {KILL}"),
     Phase("kill, proxy killed", f"--shards 2 {KILL}", 0.15, is_killed=True),
-    faulty("lagging-copy, kill", "--fault lagging-copy --every 300 --kill-every 15 --lasting 2", "lagging-copy, kill"),
-    Phase("kill, pause", f"--lag 0.05 {BOTH}", 0.2, reads_the_first=True),
+    faulty("lagging-copy, kill", "--fault lagging-copy --every 300 --kill-every 15 --lasting 2"),
+    Phase("kill", f"--lag 0.05 {KILL}", 0.3),
 ]
 
 
@@ -143,6 +146,8 @@ class Nginx:
         user = "user root;" if os.getuid() == 0 else ""
         text = NGINX.format(folder=folder, user=user, all=" ".join(rows), first=rows[0], servers=servers)
         (self.folder / "nginx.conf").write_text(text)
+        (self.folder / "access.log").touch()
+        self.log, self.seen = open(self.folder / "access.log", encoding="utf-8"), 0
 
     def __enter__(self):
         self.process = subprocess.Popen([shutil.which("nginx") or "/usr/sbin/nginx", "-p", self.folder, "-c", self.folder / "nginx.conf"])
@@ -151,6 +156,12 @@ class Nginx:
     def __exit__(self, *_):
         self.process.terminate()
         self.process.wait()
+        self.log.close()
+
+    def answered(self):
+        """How many answers it gave so far."""
+        self.seen += self.log.read().count("\n")
+        return self.seen
 
     def counts(self):
         """How many answers it gave, how many were packed by it, how many came packed, and how many requests it sent again."""
@@ -172,37 +183,40 @@ class Recording:
             raise AssertionError(f"the proxy doesn't start: {self.proxy.url}")
         addresses(self.proxy, len(others))
         self.printed, self.told = Said(self.proxy.process.stdout), Said(self.proxy.process.stderr)
-        self.began, self.memory = time.monotonic(), []
+        # how much memory the proxy takes behind so many requests, in MiB
+        self.began, self.ended, self.memory = time.monotonic(), None, []
 
     @property
     def refuted(self):
         """The line by which the watch refuted it, with its moment, or None."""
         return self.printed.first("refuted ")
 
-    def sample(self):
-        """Takes the memory of the proxy now, unless it ended."""
+    def sample(self, requests):
+        """Takes the memory of the proxy now, after so many requests, unless it ended."""
         if self.proxy.process.poll() is None:
             with contextlib.suppress(OSError, TypeError):
-                self.memory.append((time.monotonic() - self.began, megabytes(self.proxy, "VmRSS")))
+                self.memory.append((requests, megabytes(self.proxy, "VmRSS")))
 
     def end(self):
-        """Ends it, unless it ended; returns what it says at its end."""
+        """Ends it, unless it ended; returns the last lines that it wrote."""
+        self.ended = self.ended or time.monotonic()
         if self.proxy.process.poll() is None:
             self.proxy.process.terminate()
         self.proxy.process.wait(timeout=120)
         for it in (self.printed, self.told):
             it.thread.join(60)
-        return [line for _, line in [*self.told.lines, *self.printed.lines] if not line.startswith("part-")]
+        return [line for _, line in [*self.told.lines, *self.printed.lines] if not line.startswith("part-")][-12:]
 
     def kill(self):
         """Kills the proxy at once."""
+        self.ended = time.monotonic()
         self.proxy.process.kill()
         self.proxy.process.wait()
 
     def grown(self):
         """The memory behind the warm-up and at the end, the middle of several samples each, in MiB; None if it was too short."""
-        warm = [mebibytes for moment, mebibytes in self.memory if moment >= WARM_UP]
-        if len(warm) < WARM_UP:
+        warm = [mebibytes for requests, mebibytes in self.memory if requests >= WARM_UP]
+        if len(warm) < LEAST_SAMPLES:
             return None
         count = len(warm) // 4
         return statistics.median(warm[:count]), statistics.median(warm[-count:])
@@ -232,16 +246,19 @@ def first_shown(program, lines):
 
 
 class Row(NamedTuple):
-    """What is found of a recording."""
+    """What is found of a recording: its name, how many seconds it took, how many requests and calls it has, what a check says of its parts, the
+    verdict of the watch, how many seconds that took, the memory, and whether that is judged; and what is wrong."""
 
     name: str
-    seconds: float
+    seconds: int
+    requests: int
     calls: int
     answers: str
     watch: str
     delay: str
     memory: str
-    faults: tuple = ()
+    is_memory_judged: bool
+    faults: Sequence[str]
 
 
 class Soak:
@@ -284,7 +301,7 @@ class Soak:
         for number, it in enumerate(recordings):
             self.rows.append(self.row(phase, it, f"{phase.name}{' (2)' if number else ''}"))
             print_row(self.rows[-1])
-            print("".join(f"  {line}\n" for line in said[number][-12:]), end="", flush=True)
+            print("".join(f"  {line}\n" for line in said[number]), end="", flush=True)
 
     def begin(self, nodes, *words):
         """A recording that begins."""
@@ -292,9 +309,11 @@ class Soak:
 
     def wait(self, phase, recording):
         """Waits until a recording has lasted as long as it is to, or is refuted."""
-        seconds = LONGEST_FAULT if phase.evidence else phase.share * self.setting.minutes * 60 / (1 + phase.is_killed)
+        seconds = max(LEAST, phase.share * self.setting.minutes * 60 / (1 + phase.is_killed))
+        seconds = LONGEST_FAULT if phase.is_faulty else seconds
+        before = self.nginx.answered()
         while time.monotonic() < recording.began + seconds and recording.refuted is None and recording.proxy.process.poll() is None:
-            recording.sample()
+            recording.sample(self.nginx.answered() - before)
             time.sleep(0.5)
 
     def row(self, phase, recording, name):
@@ -302,37 +321,40 @@ class Soak:
         parts = parts_of(recording.out)
         answers = [checked(self.setting.program, b"".join(it)) for it in parts.values()]
         words = [it.split(" ")[0] for it in answers]
-        refuted, faults = recording.refuted, []
         calls = sum(it.count(b'"e":"call"') for lines in parts.values() for it in lines)
-        if phase.evidence:
-            delay, more = self.delay(phase, refuted, parts)
-            faults += more
-        else:
-            delay = ""
-            if refuted is not None or set(words) - {"yes"}:
-                faults.append(f"{name}: a healthy cluster isn't explained: {refuted and refuted[1]}; {[it for it in answers if not it.startswith('yes')]}")
+        delay, faults = (self.delay if phase.is_faulty else self.accusation)(recording.refuted, parts, answers)
         grown = recording.grown()
         if grown is not None and grown[1] - grown[0] > MOST_GROWN:
-            faults.append(f"{name}: the memory grew from {grown[0]:.1f} to {grown[1]:.1f} MiB")
-        memory = f"{grown[0]:.1f} -> {grown[1]:.1f}" if grown else f"({recording.memory[-1][1]:.1f})" if recording.memory else "-"
+            faults.append(f"the memory grew from {grown[0]:.1f} to {grown[1]:.1f} MiB")
+        requests, last = recording.memory[-1] if recording.memory else (0, 0.0)
+        memory = f"{grown[0]:.1f} to {grown[1]:.1f}" if grown else f"({last:.1f})"
         counts = ", ".join(f"{words.count(it)} {it}" for it in sorted(set(words)))
-        watch = refuted[1].split(" calls=")[0] if refuted else "-"
-        return Row(name, recording.memory[-1][0] if recording.memory else 0.0, calls, counts, watch, delay, memory, tuple(faults))
+        watch = recording.refuted[1].split(" calls=")[0] if recording.refuted else "-"
+        seconds = recording.ended - recording.began
+        return Row(name, round(seconds), requests, calls, counts, watch, delay, memory, grown is not None, [f"{name}: {it}" for it in faults])
 
-    def delay(self, phase, refuted, parts):
+    def accusation(self, refuted, parts, answers):
+        """What is wrong with what is said of a healthy cluster, behind no delay."""
+        wrong = [it for it in answers if not it.startswith("yes ")]
+        return "-", [f"a healthy cluster isn't explained: {refuted and refuted[1]}; {wrong}"] if refuted or wrong or not parts else []
+
+    def delay(self, refuted, parts, answers):
         """How long it took until a fault was reported, and what is wrong with that."""
-        if refuted is None or not re.match(phase.evidence, f"{refuted[1]} "):
-            return "-", [f"{phase.name}: the watch reported {refuted and refuted[1]}"]
-        shown = min(filter(None, (first_shown(self.setting.program, it) for it in parts.values())), default=None)
+        if refuted is None:
+            return "-", [f"nothing was reported; the parts get {answers}"]
+        shown = min(filter(None, (first_shown(self.setting.program, it) for it in parts.values())))
         seconds = refuted[0] - shown
-        late = [f"{phase.name}: reported after {seconds:.1f} s"] if seconds > 2 * self.setting.every else []
-        return f"{seconds:.1f}", late
+        return f"{seconds:.1f}", [f"reported after {seconds:.1f} s"] if seconds > 2 * self.setting.every else []
+
+
+HEADING = ("recording", "seconds", "requests", "calls", "its parts", "the watch", "after s", "MiB of the proxy")
 
 
 def print_row(row):
     """Prints a line of the table."""
-    cells = [f"{row.name:27}", f"{row.seconds:5.0f} s", f"{row.calls:7} calls", f"{row.answers:22}", f"{row.watch:26}", f"{row.delay:>5}", row.memory]
-    print("  ".join(cells), flush=True)
+    name, seconds, requests, calls, *others = row
+    answers, watch, delay, memory, *_ = others
+    print(f"{name:29}{seconds:>8}{requests:>9}{calls:>8}  {answers:13}{watch:27}{delay:>7}  {memory}", flush=True)
 
 
 def main():
@@ -347,10 +369,13 @@ def main():
             os.mkdir(setting.keep)
         soak = Soak(setting, os.path.realpath(setting.keep or stack.enter_context(tempfile.TemporaryDirectory(prefix="casbench-soak-"))))
         soak.run()
-    print("\nphase, its time, calls, what each part gets under the profile, the watch, seconds to its report, MiB of the proxy behind the warm-up and at the end")
+    print()
+    print_row(HEADING)
     for it in soak.rows:
         print_row(it)
     faults = [fault for it in soak.rows for fault in it.faults]
+    if not any(it.is_memory_judged for it in soak.rows):
+        faults.append(f"no recording had enough requests to judge the memory, more than {WARM_UP}")
     for it in faults:
         print(f"wrong: {it}")
     return 1 if faults else 0
