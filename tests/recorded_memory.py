@@ -123,6 +123,13 @@ class Kept(JudgeTest):
 class NotJudged(unittest.TestCase):
     """The set of documents that aren't judged."""
 
+    def test_one_without_ids(self):
+        """It takes next to no memory, also when it is asked for many."""
+        before = memory()
+        gone = Gone()
+        self.assertFalse(any(f"other-{number}" in gone for number in range(20_000)))
+        self.assertLess(memory() - before, MOST_GROWN)
+
     def test_ids(self):
         gone = Gone()
         for number in range(20_000):

@@ -4,6 +4,7 @@ Documents are kept in two generations, and each that is asked for belongs to the
 document that was asked for since it was the younger: these are given up, few at a time, and it becomes the older one.
 """
 
+import mmap
 from typing import Dict, Iterator, Optional
 
 from .documents import Document
@@ -26,8 +27,8 @@ class Gone:
     thirty million one of 59."""
 
     def __init__(self) -> None:
-        # (the system gives a page of it once a bit there is set)
-        self._bits = bytearray(1 << BITS - 3)
+        # (the system gives a page of it once a bit there is set; a bytearray would take all of it at once)
+        self._bits = mmap.mmap(-1, 1 << BITS - 3, flags=mmap.MAP_PRIVATE)
 
     def add(self, id: str) -> None:
         """Adds an id."""
