@@ -23,6 +23,7 @@ import os
 import pathlib
 import re
 import shutil
+import signal
 import socket
 import statistics
 import subprocess
@@ -41,9 +42,9 @@ from recordings import Started
 # seconds a recording lasts at least; and after how many one of a fault ends that isn't reported.
 PART, SETTLE, PATIENCE, LEAST, LONGEST_FAULT = 20_000, 10, "1s", 30, 90
 
-# How many requests a recording warms up: the proxy remembers 8,192 lines of requests, and one in five has a condition, which is always another one.
+# How many requests a recording warms up: the proxy remembers 8,192 lines of requests, and one in ten has a condition, which is always another one.
 # Then by how many MiB its memory may grow, and how many samples of it there are at least.
-WARM_UP, MOST_GROWN, LEAST_SAMPLES = 45_000, 2.0, 40
+WARM_UP, MOST_GROWN, LEAST_SAMPLES = 90_000, 2.0, 40
 
 KILL = "--kill-every 4 --lasting 2"
 PAUSE = "--pause-every 4 --lasting 3 --detection 0.8 --spare 1"
@@ -185,6 +186,7 @@ class Recording:
         self.printed, self.told = Said(self.proxy.process.stdout), Said(self.proxy.process.stderr)
         # how much memory the proxy takes behind so many requests, in MiB
         self.began, self.ended, self.memory = time.monotonic(), None, []
+        self.is_killed = False
 
     @property
     def refuted(self):
@@ -209,7 +211,7 @@ class Recording:
 
     def kill(self):
         """Kills the proxy at once."""
-        self.ended = time.monotonic()
+        self.ended, self.is_killed = time.monotonic(), True
         self.proxy.process.kill()
         self.proxy.process.wait()
 
@@ -322,7 +324,10 @@ class Soak:
         answers = [checked(self.setting.program, b"".join(it)) for it in parts.values()]
         words = [it.split(" ")[0] for it in answers]
         calls = sum(it.count(b'"e":"call"') for lines in parts.values() for it in lines)
-        delay, faults = (self.delay if phase.is_faulty else self.accusation)(recording.refuted, parts, answers)
+        if phase.is_faulty:
+            delay, faults = self.delay(recording.refuted, parts, answers)
+        else:
+            delay, faults = "-", self.accusations(recording, answers)
         grown = recording.grown()
         if grown is not None and grown[1] - grown[0] > MOST_GROWN:
             faults.append(f"the memory grew from {grown[0]:.1f} to {grown[1]:.1f} MiB")
@@ -333,10 +338,15 @@ class Soak:
         seconds = recording.ended - recording.began
         return Row(name, round(seconds), requests, calls, counts, watch, delay, memory, grown is not None, [f"{name}: {it}" for it in faults])
 
-    def accusation(self, refuted, parts, answers):
-        """What is wrong with what is said of a healthy cluster, behind no delay."""
-        wrong = [it for it in answers if not it.startswith("yes ")]
-        return "-", [f"a healthy cluster isn't explained: {refuted and refuted[1]}; {wrong}"] if refuted or wrong or not parts else []
+    def accusations(self, recording, answers):
+        """What is wrong with the recording of a healthy cluster."""
+        faults, wrong = [], [it for it in answers if not it.startswith("yes ")]
+        if recording.refuted or wrong or not answers:
+            faults.append(f"a healthy cluster isn't explained: {recording.refuted and recording.refuted[1]}; {wrong}")
+        status = recording.proxy.process.returncode
+        if status != (-signal.SIGKILL if recording.is_killed else 0):
+            faults.append(f"the proxy ended with status {status}")
+        return faults
 
     def delay(self, refuted, parts, answers):
         """How long it took until a fault was reported, and what is wrong with that."""
@@ -364,6 +374,8 @@ def main():
     parser.add_argument("--every", type=float, default=5.0)
     parser.add_argument("--keep", metavar="FOLDER")
     setting = parser.parse_args()
+    # (so that nothing is left that was started)
+    signal.signal(signal.SIGTERM, lambda *_: sys.exit(143))
     with contextlib.ExitStack() as stack:
         if setting.keep:
             os.mkdir(setting.keep)
