@@ -10,6 +10,7 @@ passed and failed.
 import importlib.util
 import json
 import os
+import pathlib
 import resource
 import subprocess
 import sys
@@ -269,6 +270,11 @@ class InParts(FolderTest):
         self.assertRaisesRegex(HistoryError, "File exists", Parts, folder)
 
 
+def modules_in(folder):
+    """The files of the package in a folder, by their paths, without what Python compiled of them."""
+    return {it.relative_to(folder) for it in (folder / "casbench_recording").rglob("*") if it.is_file() and it.parent.name != "__pycache__"}
+
+
 @unittest.skipUnless(importlib.util.find_spec("pip"), "this Python has no pip, so the package was not installed")
 class Installed(FolderTest):
     """The package as pip installs it."""
@@ -281,8 +287,7 @@ class Installed(FolderTest):
         words = [sys.executable, "-c", "import casbench_recording.proxy, sys; print(casbench_recording.__file__)"]
         ran = subprocess.run(words, capture_output=True, text=True, env=environment(PYTHONPATH=installed), cwd=self.folder)
         self.assertEqual(ran.stdout.strip(), os.path.join(installed, "casbench_recording", "__init__.py"), ran.stderr)
-        own = {it.name for it in (PACKAGE / "casbench_recording").iterdir() if it.is_file()}
-        self.assertEqual({it for it in os.listdir(os.path.join(installed, "casbench_recording")) if it != "__pycache__"}, own)
+        self.assertEqual(modules_in(pathlib.Path(installed)), modules_in(PACKAGE))
         self.assertLessEqual(set(os.listdir(PACKAGE)) - before, {"__pycache__"})
 
 
