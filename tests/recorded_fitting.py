@@ -32,7 +32,7 @@ FITS = "the check that fits is casbench check --profile opensearch"
 
 
 class Indexes(unittest.TestCase):
-    """Which reading fits an index, by what the cluster tells of it."""
+    """Which reading fits an index, by the cluster's answers about it."""
 
     def fitting(self, settings, nodes=None, served=1):
         given = [("/_cluster/health", {"number_of_nodes": nodes})] if nodes is not None else []

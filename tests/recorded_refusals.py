@@ -190,7 +190,7 @@ class Updates(JudgeTest):
         self.assertRegex(self.check(), r"\Ayes ")
 
     def test_updates_beside_other_writes(self):
-        """What another write may have done meanwhile is told apart from an earlier attempt by nobody."""
+        """Nobody can distinguish what another write may have done meanwhile from an earlier attempt."""
         put, delete = "PUT /carts/_doc/d", "DELETE /carts/_doc/d"
         cases = {
             "a delete that is open": [self.WRITTEN, ("begin", delete, None), (UPDATE, self.CHANGE, NOT_THERE), ("end", delete, written(1, "deleted"))],

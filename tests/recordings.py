@@ -41,7 +41,7 @@ def judged(program, file, *options):
 
 
 def empty_stats(index):
-    """What a cluster tells of the shards of an index to which nothing was written."""
+    """What a cluster answers about the shards of an index to which nothing was written."""
     shards = {str(it.number): [{"seq_no": {"max_seq_no": -1}}] for it in index.shards}
     return {"indices": {index.name: {"shards": shards}}}
 

@@ -167,7 +167,7 @@ class Answering:
         return (status, text) if text is not None else Loss.UNKNOWN
 
     def _number_shown(self, part: Part, document: Document, pair: Pair, source: Any) -> Optional[int]:
-        """The number of the version that a get found, with this source; None if it can't be told."""
+        """The number of the version that a get found, with this source; None if it can't be determined."""
         # (a reply of the usual form has its digest there)
         digest = source if isinstance(source, Digest) else digest_of(source) if isinstance(source, dict) else None
         return document.number_shown(pair, digest, part.shows_all and isinstance(source, (dict, Digest)))

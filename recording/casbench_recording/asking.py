@@ -192,7 +192,7 @@ class Asking:
     # What a request says of a document
 
     def _left_out(self, id: str, why: str) -> None:
-        """Heeds a write that can't be told, and has no line."""
+        """Heeds a write that can't be determined, and has no line."""
         self._left_out_of([id], why)
 
     def _left_out_of(self, ids: Sequence[str], why: str) -> None:
@@ -211,7 +211,7 @@ class Asking:
         return part
 
     def _item(self, item: Item, asked: AskedInPieces) -> Optional[Part]:
-        """The call of an item of a bulk request, or None where it is none of the index, or can't be told."""
+        """The call of an item of a bulk request, or None where it is none of the index, or can't be determined."""
         op, words, ledger = item.op, {**asked.words, **item.words}, self._ledger
         index, id = words.get("_index", asked.room), words.get("_id", "")
         index, id = asked.room if index is None else index, "" if id is None else id

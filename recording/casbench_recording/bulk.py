@@ -15,7 +15,7 @@ Body = Dict[str, Any]
 
 
 class Untellable(Exception):
-    """It can't be told which documents a request writes."""
+    """It can't be determined which documents a request writes."""
 
 
 class Item(NamedTuple):

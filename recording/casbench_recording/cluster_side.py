@@ -188,7 +188,7 @@ class ClusterSide:
         elif exchange.is_sent and not self.stream.is_closing:
             client.answered()
         else:
-            # (the cluster is gone, or didn't want the rest of the request, and the client's next one can't be told from it)
+            # (the cluster is gone, or didn't want the rest of the request, and the client's next one can't be distinguished from it)
             client.close()
         if client.held:
             client.account()

@@ -239,7 +239,7 @@ class Continuing(CallWriter):
                 self._documents.pop(it, None)
 
     def forgets(self, id: str) -> bool:
-        """Forgets a document if nothing is known of it that another part would state; tells whether it did."""
+        """Forgets a document if nothing is known of it that another part would state; returns whether it did."""
         with self._lock:
             document = self._documents.get(id)
             is_blank = document is None or document.past.is_blank

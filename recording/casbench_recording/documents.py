@@ -1,6 +1,6 @@
 """What a recorder that watches knows of documents: which it may judge, and the numbers that stand for their sources.
 
-A history tells a version by its pair and by a number `k`. Here `k` is a digest of the source: equal sources have one
+A history identifies a version by its pair and by a number `k`. Here `k` is a digest of the source: equal sources have one
 number, whatever the order of their keys, and no source is remembered.
 """
 
@@ -171,10 +171,10 @@ class Document:
             self.writes -= 1
 
     def number_shown(self, pair: Pair, digest: Optional[int], is_whole: bool) -> Optional[int]:
-        """The number that a get shows which found this pair; None where it can't be told.
+        """The number that a get shows which found this pair; None if it can't be determined.
 
         If a write of unknown source was answered with the pair it is that one's, whatever is shown; if one may have taken it unseen it
-        can't be told. If the source isn't shown as a whole it is that of the write which was answered with the pair.
+        can't be determined. If the source isn't shown as a whole it is that of the write which was answered with the pair.
         """
         number: Optional[int] = None
         for version in reversed(self._written):

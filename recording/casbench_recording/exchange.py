@@ -63,7 +63,7 @@ class Unpacking:
         self._length = 0
 
     def slices(self, content: bytes, is_last: bool) -> Iterator[Optional[bytes]]:
-        """What a piece of the content says, some of it at a time; None at what can't be told."""
+        """What a piece of the content says, some of it at a time; None at what can't be determined."""
         if not self._is_known:
             yield None
         elif self._decoder is None:

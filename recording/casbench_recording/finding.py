@@ -69,7 +69,7 @@ class Finding:
         self._give_up: GoOn = turn_ended
         # how many writes others may have made of documents that aren't judged
         self._unknown = 0
-        # the names by which other writes went that were answered, which may be names of the index; None if they can't be told
+        # the names by which other writes went that were answered, which may be names of the index; None if they can't be determined
         self._names: Optional[Set[str]] = set()
         loop.ticks[self._tick] = None
 

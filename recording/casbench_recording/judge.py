@@ -1,6 +1,6 @@
 """What a recorder that watches writes down: which calls a request makes, what its answer says of them, and what it can't tell.
 
-Nothing is guessed. A call whose reply can't be told exactly is lost. A document of which some write can't be told is judged
+Nothing is guessed. A call whose reply can't be determined exactly is lost. A document of which some write can't be determined is judged
 no longer: its open calls are lost, later ones aren't recorded, and a list beside the history names it. Where it can't be
 told which documents are written, the recording ends. So what was recorded stays right in each case.
 """

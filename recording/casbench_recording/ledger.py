@@ -23,7 +23,7 @@ MADE_ID = re.compile(r"[A-Za-z0-9_-]{20}")
 
 
 class Ledger:
-    """The documents of the index. A document of which some write can't be told is judged no longer: what is open is lost."""
+    """The documents of the index. A document of which some write can't be determined is judged no longer: what is open is lost."""
 
     def __init__(
         self,
@@ -103,13 +103,13 @@ class Ledger:
         return document
 
     def settled(self) -> None:
-        """Begins the recording. A write that is open now and whose id its answer tells is one from before it."""
+        """Begins the recording. A write that is open now and whose id only its answer gives is one from before it."""
         if self.is_settling:
             self.is_settling = False
             self.sweeps += 1
 
     def untold(self, id: str, why: str) -> None:
-        """Heeds that a document is written in a way that can't be told; where it has no id, one that nobody knows."""
+        """Heeds that a document is written in a way that can't be determined; where it has no id, one that nobody knows."""
         if not id:
             self.unnamed += 1
         elif self.documents.get(id) is not None or self._first_seen(id) is not None:

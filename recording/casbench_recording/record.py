@@ -111,7 +111,7 @@ def bulk_of(index: str, operations: Sequence[Operation]) -> Tuple[str, str, str]
 
 
 def items_of(operations: Sequence[Operation], answer: Answer) -> List[Optional[Dict[str, Any]]]:
-    """What a bulk request's answer says of each call, or None for each where it can't be told."""
+    """What a bulk request's answer says of each call, or None for each where it can't be determined."""
     items = answer.members.get("items") if answer.status == 200 else None
     if not isinstance(items, list) or len(items) != len(operations):
         return [None] * len(operations)
@@ -119,7 +119,7 @@ def items_of(operations: Sequence[Operation], answer: Answer) -> List[Optional[D
 
 
 def told_by(item: Any, action: str) -> Optional[Dict[str, Any]]:
-    """What an item of a bulk request's answer says of its action, or None where it can't be told."""
+    """What an item of a bulk request's answer says of its action, or None where it can't be determined."""
     told = item.get(action) if isinstance(item, dict) else None
     status = told.get("status") if isinstance(told, dict) else None
     return told if type(status) is int and 0 <= status <= 65_535 else None

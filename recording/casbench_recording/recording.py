@@ -1,4 +1,4 @@
-"""The lines of a recording that watches, and its end: at its time, or before it, where what is written can't be told any more."""
+"""The lines of a recording that watches, and its end: at its time, or before it, where what is written can't be determined any more."""
 
 from typing import Callable, Dict, Sequence, Union
 
