@@ -11,6 +11,14 @@ pub struct NamedPair {
     pub next: usize,
 }
 
+impl NamedPair {
+    // The pair with this index.
+    fn with_index(pair: Pair, at: usize) -> NamedPair {
+        let next = at.saturating_add(1);
+        NamedPair { pair, at, next }
+    }
+}
+
 impl<D: Count> ForwardWalk<'_, D> {
     /// Returns the numbers that are left before the next known pair, if the pair before it is of the same
     /// term.
@@ -45,24 +53,61 @@ impl<D: Count> ForwardWalk<'_, D> {
         }
     }
 
+    // The named pair with this index, if an inserted write may take it that comes between two pairs of one term, and
+    // one more can be inserted after it.
+    fn named_within(&self, gap: PairRange, at: usize) -> Option<NamedPair> {
+        let pair = *self.known.named.get(at)?;
+        let behind = Pair::new(pair.term(), pair.seq() + 1)?;
+        let is_free = self.free.least(pair, gap.upper) == Some(pair);
+        if is_free && self.free.count(behind, gap.upper) > 0 {
+            Some(NamedPair::with_index(pair, at))
+        } else {
+            None
+        }
+    }
+
+    // The named pair with this index, if no document is known to use it.
+    fn named_beyond(&self, at: usize) -> Option<NamedPair> {
+        let pair = *self.known.named.get(at)?;
+        let behind = Pair::new(pair.term(), pair.seq() + 1)?;
+        if self.free.least(pair, behind) == Some(pair) {
+            Some(NamedPair::with_index(pair, at))
+        } else {
+            None
+        }
+    }
+
+    // Whether a named pair comes before the next known one.
+    fn is_before_next(&self, pair: Pair) -> bool {
+        match self.next_known() {
+            Some(next) => pair < next.pair,
+            None => true,
+        }
+    }
+
     /// Returns the first of the pairs that conditions name, from an index among them on, that an inserted
-    /// write may take such that one more can be inserted after it.
+    /// write may take such that one more can be inserted after it. If a write was inserted whose pair is chosen at the
+    /// end, there is none.
     pub fn named_pair(&self, from: usize) -> Option<NamedPair> {
-        let gap = self.gap()?;
-        let named = self.known.named.as_slice();
-        for at in self.known.first_named(gap.from).max(from)..named.len() {
-            let pair = named[at];
-            if pair >= gap.upper {
+        let gap = self.gap();
+        if gap.is_none() && self.state.has_unpaired {
+            return None;
+        }
+        let first = match self.state.last {
+            Some(last) => self.known.first_named(last),
+            None => 0,
+        };
+        for at in first.max(from)..self.known.named.len() {
+            let pair = self.known.named[at];
+            if !self.is_before_next(pair) {
                 return None;
             }
-            let behind = Pair::new(pair.term(), pair.seq() + 1)?;
-            let is_free = self.free.least(pair, gap.upper) == Some(pair);
-            if is_free && self.free.count(behind, gap.upper) > 0 {
-                return Some(NamedPair {
-                    pair,
-                    at,
-                    next: at + 1,
-                });
+            let named = match gap {
+                Some(gap) => self.named_within(gap, at),
+                None => self.named_beyond(at),
+            };
+            if named.is_some() && self.state.last < Some(pair) {
+                return named;
             }
         }
         None

@@ -2,7 +2,7 @@ use crate::inserted_pair::NamedPair;
 use crate::known::KnownPair;
 use crate::state::Document;
 use crate::wait_kind::WaitKind;
-use crate::walk::{ForwardWalk, Placed};
+use crate::walk::{ForwardWalk, MOST_BACK, Placed};
 use completing::{Count, No, Timed, earlier, leaves_it, needs};
 use doc_register::Conflicts;
 use events::Rec;
@@ -68,7 +68,7 @@ struct Tried<D: Count> {
 }
 
 // The number of conflicts of a kind that are examined.
-const MOST_WAITING: usize = 64;
+const MOST_WAITING: usize = MOST_BACK;
 
 // Whether the state of the document before the write is what the write needs.
 fn fits<D: Count>(walk: &ForwardWalk<'_, D>, found: Rec) -> bool {
@@ -355,27 +355,24 @@ fn serves<D: Count>(walk: &mut ForwardWalk<'_, D>, delete: bool) -> bool {
     walk.first(waiting).is_some() || next_misses(walk) || (delete && next_may_create(walk))
 }
 
-// Whether an unanswered create, which needs the document to be absent, can have the next known pair.
+// Whether a create that no reply shows to be performed, which needs the document to be absent, can have the next known
+// pair.
 fn next_may_create<D: Count>(walk: &mut ForwardWalk<'_, D>) -> bool {
-    match walk.next_known() {
-        Some(
-            KnownPair {
-                writer: None,
-                number: Some(number),
-                ..
-            },
-        ) => {
+    let Some(entry) = walk.next_known() else {
+        return false;
+    };
+    if entry.writer.is_some() {
+        return false;
+    }
+    if walk.conflicts == Conflicts::Maybe && walk.has_refused_create(entry.number) {
+        return true;
+    }
+    match entry.number {
+        Some(number) => {
             let _ = walk.numbers.first(number, &walk.placed);
             has_create(walk, number)
         }
-        Some(
-            KnownPair {
-                writer: None,
-                number: None,
-                ..
-            },
-        ) => walk.first(WaitKind::LostCreate).is_some(),
-        _ => false,
+        None => walk.first(WaitKind::LostCreate).is_some(),
     }
 }
 
@@ -452,6 +449,7 @@ fn serves_both<D: Count>(walk: &mut ForwardWalk<'_, D>) -> bool {
         serves(walk, true)
     } else {
         matches!(next_writer(walk).and_then(needs), Some(false))
+            || conflict(walk, None, false).is_some()
     }
 }
 
@@ -485,33 +483,26 @@ fn turned_to<D: Count>(walk: &ForwardWalk<'_, D>, pair: Pair) -> Option<Placed<D
     None
 }
 
-// A write of the document that takes a pair which a delete asks for: an unanswered one, one whose reply is a
-// conflict, or such a one that was placed as refused; and what is tried after it.
-fn asked<D: Count>(walk: &mut ForwardWalk<'_, D>, turn: NextTry) -> Option<Attempt<D>> {
-    match turn {
-        NextTry::Asked(from) => {
-            let named = pair_for_delete(walk, from)?;
-            Some(Attempt {
-                write: Placed::Inserted(lost_index(walk)?, Some(named.pair)),
-                next: NextTry::Asked(named.next),
-            })
-        }
-        NextTry::AskedRefused(from) => {
-            let named = pair_for_delete(walk, from)?;
-            Some(Attempt {
-                write: Placed::Inserted(conflict(walk, None, false)?.rec, Some(named.pair)),
-                next: NextTry::AskedRefused(named.next),
-            })
-        }
-        NextTry::AskedTurned(from) => {
-            let named = pair_for_delete(walk, from)?;
-            Some(Attempt {
-                write: turned_to(walk, named.pair)?,
-                next: NextTry::AskedTurned(named.next),
-            })
-        }
-        _ => None,
-    }
+// A write of the document that takes a pair which a delete asks for, at a turn of one of the three kinds: an
+// unanswered one, one whose reply is a conflict, or such a one that was placed as refused; and what is tried after it.
+fn asked<D: Count>(
+    walk: &mut ForwardWalk<'_, D>,
+    from: usize,
+    turn: NextTry,
+) -> Option<Attempt<D>> {
+    let named = pair_for_delete(walk, from)?;
+    let pair = Some(named.pair);
+    let write = match turn {
+        NextTry::AskedRefused(_) => Placed::Inserted(conflict(walk, None, false)?.rec, pair),
+        NextTry::AskedTurned(_) => turned_to(walk, named.pair)?,
+        _ => Placed::Inserted(lost_index(walk)?, pair),
+    };
+    let next = match turn {
+        NextTry::AskedRefused(_) => NextTry::AskedRefused(named.next),
+        NextTry::AskedTurned(_) => NextTry::AskedTurned(named.next),
+        _ => NextTry::Asked(named.next),
+    };
+    Some(Attempt { write, next })
 }
 
 // The record as an inserted write, whose pair isn't chosen yet; and what is tried after it.
@@ -536,7 +527,9 @@ fn attempt_at<D: Count>(walk: &mut ForwardWalk<'_, D>, turn: NextTry) -> Option<
             _ => None,
         },
         NextTry::Turned(from) => turn_back(walk, from),
-        NextTry::Asked(_) | NextTry::AskedRefused(_) | NextTry::AskedTurned(_) => asked(walk, turn),
+        NextTry::Asked(from) | NextTry::AskedRefused(from) | NextTry::AskedTurned(from) => {
+            asked(walk, from, turn)
+        }
         NextTry::Done => None,
     }
 }

@@ -37,6 +37,8 @@ pub struct SearchState {
     pub passed: usize,
     /// The number of writes that were inserted since.
     pub inserted: u64,
+    /// Whether one of them has a pair that is chosen at the end.
+    pub has_unpaired: bool,
     /// The number of writes to be inserted before the next known pair.
     pub budget: u64,
     /// The greatest pair that is taken: the known one that was passed last, or that of a write inserted since
@@ -98,6 +100,7 @@ impl SearchState {
             document: Document::Absent,
             passed: 0,
             inserted: 0,
+            has_unpaired: false,
             budget: 0,
             last: None,
             replies: 0,
@@ -141,6 +144,7 @@ impl SearchState {
         let place = mix(mark_of(self.passed) ^ self.document.number());
         let budget = if self.inserted == 0 { 0 } else { self.budget };
         let last = self.last.map_or(0, |pair| pair.seq() + 1);
-        mix(mix(mix(place ^ self.inserted) ^ budget) ^ last) ^ self.mark
+        let unpaired = if self.has_unpaired { 1 } else { 0 };
+        mix(mix(mix(mix(place ^ self.inserted) ^ budget) ^ last) ^ unpaired) ^ self.mark
     }
 }

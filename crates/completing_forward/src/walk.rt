@@ -6,8 +6,8 @@ use crate::rooms::set_rooms;
 use crate::state::{Document, SearchState, mark_of, mix};
 use crate::wait_kind::{WaitKind, kinds_of, lines_of_kinds};
 use completing::{
-    ConflictOrder, Count, Free, Lines, No, Records, Table, Timed, WritesByNumber, leaves_it,
-    number_of,
+    ConflictOrder, Count, Free, Lines, No, Records, Table, Timed, WritesByNumber, is_conflict,
+    leaves_it, number_of,
 };
 use doc_register::{Conflicts, Op};
 use events::Rec;
@@ -16,6 +16,8 @@ use version_pair::{NoMemory, Pair};
 use write_chain::{AnsweredRec, answers_of};
 
 mod turning;
+
+pub use turning::MOST_BACK;
 
 /// A record that was placed.
 #[derive_where(Clone, Copy)]
@@ -69,6 +71,8 @@ pub struct ForwardWalk<'a, D: Count> {
     // The conflicts on pairs in the order of their calls.
     conflicts_by_call: Vec<Timed<D>>,
     pub placed: Table<D, bool>,
+    // What stands as a read, or as refused.
+    read: Table<D, bool>,
     // The conflicts that were placed as refused and are writes after all.
     turned: Table<D, bool>,
     pub order: Vec<Placed<D>>,
@@ -125,6 +129,7 @@ impl<D: Count> ForwardWalk<'_, D> {
             replies: answers_of(alloc, records.all())?,
             conflicts_by_call: conflicts_by_call(alloc, records, &kinds)?,
             placed: Table::new(alloc, records.len(), false)?,
+            read: Table::new(alloc, records.len(), false)?,
             turned: Table::new(alloc, records.len(), false)?,
             order: Vec::with_capacity(alloc, records.len())?,
             state: SearchState::start(),
@@ -244,13 +249,22 @@ impl<D: Count> ForwardWalk<'_, D> {
     // adds nothing: it is of no use after that pair.
     fn mark(&self, placed: Placed<D>) -> u64 {
         let rec = placed.rec();
-        if placed.is_turned() {
-            return mix(mark_of(rec.index()));
+        let own = mark_of(rec.index());
+        match (placed, self.kinds.of(rec)) {
+            (Placed::KnownTurned(..) | Placed::InsertedTurned(..), _) => mix(own),
+            // (As much as if it had been refused before, and turned.)
+            (Placed::Known(..) | Placed::Inserted(..), _) if is_conflict(self.records.of(rec)) => {
+                own ^ mix(own)
+            }
+            (_, Some(kind)) if kind.is_lost_on_pair() => 0,
+            _ => own,
         }
-        match self.kinds.of(rec) {
-            Some(kind) if kind.is_lost_on_pair() => 0,
-            _ => mark_of(rec.index()),
-        }
+    }
+
+    // Records that a record is placed as a read, or as refused, or is not placed.
+    fn set_read(&mut self, rec: No<D>, is_placed: bool) {
+        self.placed.set(rec, is_placed);
+        self.read.set(rec, is_placed);
     }
 
     // Records that a record is placed, or is not.
@@ -259,10 +273,9 @@ impl<D: Count> ForwardWalk<'_, D> {
             Placed::KnownTurned(rec, _) | Placed::InsertedTurned(rec, _) => {
                 self.turned.set(rec, is_placed);
             }
-            Placed::Read(rec) | Placed::Known(rec, _) | Placed::Inserted(rec, _) => {
-                self.placed.set(rec, is_placed);
-            }
-            Placed::Freed(rec) => self.placed.set(rec, !is_placed),
+            Placed::Known(rec, _) | Placed::Inserted(rec, _) => self.placed.set(rec, is_placed),
+            Placed::Read(rec) => self.set_read(rec, is_placed),
+            Placed::Freed(rec) => self.set_read(rec, !is_placed),
         }
     }
 
@@ -381,6 +394,7 @@ impl<D: Count> ForwardWalk<'_, D> {
     fn pass_known(&mut self, pair: Pair) {
         self.state.passed = self.state.passed.saturating_add(1);
         self.state.inserted = 0;
+        self.state.has_unpaired = false;
         self.state.budget = 0;
         self.state.last = Some(pair);
     }
@@ -402,8 +416,9 @@ impl<D: Count> ForwardWalk<'_, D> {
             Placed::Inserted(_, pair) | Placed::InsertedTurned(_, pair) => {
                 // (Budgets are below the greatest number of all.)
                 self.state.inserted = self.state.inserted.saturating_add(1);
-                if pair.is_some() {
-                    self.state.last = pair;
+                match pair {
+                    Some(_) => self.state.last = pair,
+                    None => self.state.has_unpaired = true,
                 }
             }
             Placed::Read(_) | Placed::Freed(_) => {}

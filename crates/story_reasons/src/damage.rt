@@ -87,7 +87,7 @@ impl Damage {
         doc: usize,
     ) -> Result<bool, NoMemory>
         requires judged { doc < length (documents_of account.now.judged.whole.now) }
-        requires told { doc < length (documents_of account.now.in_text.whole.now) }
+        requires document { doc < length (documents_of account.now.in_text.whole.now) }
     {
         let judged = &account.judged;
         let conflicts = judged.conflicts;
@@ -115,7 +115,7 @@ impl Damage {
         subject: &Subject<'_>,
     ) -> Result<(), NoMemory>
         requires judged { doc < length (documents_of account.now.judged.whole.now) }
-        requires told { doc < length (documents_of account.now.in_text.whole.now) }
+        requires document { doc < length (documents_of account.now.in_text.whole.now) }
     {
         match subject.whole_reason() {
             Some(reason) => self.add(alloc, reason, &subject.records),

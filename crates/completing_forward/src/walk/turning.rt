@@ -7,8 +7,8 @@ use crate::wait_kind::WaitKind;
 use completing::{Count, No, leaves_it};
 use version_pair::{NoMemory, Pair};
 
-// The number of placed records that are looked at, from the last one back.
-const MOST_BACK: usize = 64;
+/// The number of placed records that are looked at, from the last one back.
+pub const MOST_BACK: usize = 64;
 
 impl<D: Count> ForwardWalk<'_, D> {
     // The record that was placed before the last `back` of the first `count` ones, if it was placed as a read or as
@@ -16,7 +16,7 @@ impl<D: Count> ForwardWalk<'_, D> {
     fn read_before(&self, count: usize, back: usize) -> Option<No<D>> {
         let place = count.checked_sub(back)?.checked_sub(1)?;
         match self.order.get(place)? {
-            Placed::Read(rec) if self.placed.of(*rec) => Some(*rec),
+            Placed::Read(rec) if self.read.of(*rec) => Some(*rec),
             _ => None,
         }
     }
@@ -39,11 +39,13 @@ impl<D: Count> ForwardWalk<'_, D> {
         }
     }
 
-    /// Returns whether the conflict, which was placed as one that is refused, can be a write here as well: all writes
-    /// that are placed were called before its reply.
+    /// Returns whether the record is a conflict that stands as refused and can be a write here as well: all writes that
+    /// are placed were called before its reply.
     pub fn can_stand(&self, rec: No<D>) -> bool {
         match self.records.of(rec).heard {
-            Some(heard) => !self.turned.of(rec) && self.state.latest < heard.0,
+            Some(heard) => {
+                self.read.of(rec) && !self.turned.of(rec) && self.state.latest < heard.0
+            }
             None => false,
         }
     }
@@ -82,13 +84,29 @@ impl<D: Count> ForwardWalk<'_, D> {
     }
 
     /// Returns the record that was placed before the last `back` ones as an inserted write, if it was placed as
-    /// refused, and the document is absent after it if it was there, and else there.
+    /// refused. (On a document that is absent a create alone would be performed.)
     pub fn turned_over(&self, back: usize) -> Option<Placed<D>> {
-        let rec = self.refused_before(back)?;
-        if leaves_it(self.records.of(rec).op) == self.state.document.is_live() {
-            None
-        } else {
-            Some(Placed::InsertedTurned(rec, None))
+        Some(Placed::InsertedTurned(self.refused_before(back)?, None))
+    }
+
+    /// Returns whether a create that stands as refused can be a write here, and has the number if one is given.
+    pub fn has_refused_create(&self, number: Option<u64>) -> bool {
+        for back in 0..MOST_BACK {
+            if let Some(rec) = self.read_before(self.order.len(), back) {
+                let is_create = self.kinds.of(rec) == Some(WaitKind::CreateConflict);
+                if is_create && self.may_have(rec, number) && self.can_stand(rec) {
+                    return true;
+                }
+            }
+        }
+        false
+    }
+
+    // Whether the record is a write of the document, of this number if one is given.
+    fn may_have(&self, rec: No<D>, number: Option<u64>) -> bool {
+        match self.records.of(rec).op.value() {
+            Some(own) => number.is_none() || number == Some(own),
+            None => false,
         }
     }
 
@@ -107,10 +125,10 @@ impl<D: Count> ForwardWalk<'_, D> {
     /// was placed as refused, and can have that pair.
     pub fn turned_to_known(&self, back: usize, entry: KnownPair<D>) -> Option<Placed<D>> {
         let rec = self.refused_before(back)?;
-        let own = self.records.of(rec).op.value()?;
-        match entry.number {
-            Some(number) if number != own => None,
-            _ => Some(Placed::KnownTurned(rec, entry.pair)),
+        if self.may_have(rec, entry.number) {
+            Some(Placed::KnownTurned(rec, entry.pair))
+        } else {
+            None
         }
     }
 
