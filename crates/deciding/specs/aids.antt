@@ -1,0 +1,12 @@
+pub mod Above
+pub mod Candidates
+pub mod Groups
+pub mod KnownPairs
+pub mod Performing
+pub mod Rows
+pub mod StepsOf
+pub mod TablesOf
+pub mod Versions
+pub mod VersionsOf
+pub mod Walks
+pub mod Writes

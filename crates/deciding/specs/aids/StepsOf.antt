@@ -1,0 +1,44 @@
+-- All steps of a row.
+use Rattle.std.specs.Prelude.{◌≡◌, ⊤, ℕ, List, Option, None, Some, slice_get}
+use Rattle.version_pair.specs.declared.pair.Pair.{Pair}
+use Rattle.doc_register.specs.declared.state.Conflicts.{Conflicts}
+use Rattle.events.specs.declared.record.Rec.{Rec}
+use Rattle.deciding.specs.declared.row.Row.{Row}
+use Rattle.deciding.specs.Branches.{Branch, Covers}
+use Rattle.deciding.specs.Steps.{MayPerform, performed}
+use Rattle.deciding.specs.aids.Rows.{IsPositioned, branch_of}
+
+-- the row is one of the list
+abbrev pub IsRowOf : List Row → Row → Type 0
+IsRowOf rows row = (i : ℕ) × (slice_get rows i ≡ Some row)
+
+-- each row has the position of its branch
+abbrev pub ArePositioned : List Rec → List Row → Type 0
+ArePositioned records rows = (row : Row) → IsRowOf rows row → IsPositioned records row
+
+-- a row of the list has the branch
+abbrev pub HasBranch : List Row → Branch → Type 0
+HasBranch rows b = (row : Row) × IsRowOf rows row × (branch_of row ≡ b)
+
+-- the new list has the rows of the old one, and its rows are positioned if those are
+pub record KeepsRows (records : List Rec) (old new : List Row) : Type 0 where
+  pub rows : (row : Row) → IsRowOf old row → IsRowOf new row
+  pub positioned : ArePositioned records old → ArePositioned records new
+
+-- if the call may be performed with the pair, the branch behind that is one of the list
+abbrev pub IsTried : Conflicts → List Rec → ℕ → Branch → ℕ → Pair → List Row → Type 0
+IsTried conflicts records event b number q rows = (r : Rec) → MayPerform conflicts records event b number r q → HasBranch rows (performed records event b number r q)
+
+-- each call that may be performed with the pair has the branch behind that in the list
+abbrev pub HasStepsWith : Conflicts → List Rec → ℕ → Branch → Pair → List Row → Type 0
+HasStepsWith conflicts records event b q rows = (j : ℕ) → IsTried conflicts records event b j q rows
+
+-- if there is a pair, each call that may be performed with it has
+abbrev pub HasStepsWithSome : Conflicts → List Rec → ℕ → Branch → Option Pair → List Row → Type 0
+HasStepsWithSome conflicts records event b None rows = ⊤
+HasStepsWithSome conflicts records event b (Some q) rows = HasStepsWith conflicts records event b q rows
+
+-- each step of the branch is covered by one of the list
+abbrev pub AreSteps : Conflicts → List Rec → ℕ → Branch → List Row → Type 0
+AreSteps conflicts records event b rows = (j : ℕ) (s : Rec) (q : Pair) → MayPerform conflicts records event b j s q
+    → (row : Row) × IsRowOf rows row × Covers records (branch_of row) (performed records event b j s q)

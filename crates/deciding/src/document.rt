@@ -1,0 +1,83 @@
+ghost use Rattle.std.specs.Prelude.{◌≡◌, ◌++◌, IfOk, OnOk, ℕ};
+ghost use Rattle.std.specs.Option.{option_to_list};
+ghost use Rattle.deciding.specs.aids.Candidates.{AreCandidates, AreIn, AreLostIn, AreOpen, IsDocument, numbers_in};
+ghost use Rattle.deciding.specs.aids.Rows.{IsPositioned, branch_of};
+
+use crate::groups::Entry;
+use crate::row::Row;
+use crate::version::FoundNumbers;
+use crate::versions::Versions;
+use crate::writes::Writes;
+use doc_register::Conflicts;
+use events::Rec;
+use std::alloc::Global;
+use version_pair::{NoMemory, Pair};
+
+/// A document's records, and what they say of it.
+#[derive(Drop)]
+pub struct Document<'a> {
+    pub records: &'a [Rec],
+    pub conflicts: Conflicts,
+    pub versions: Versions,
+    pub writes: Writes,
+}
+
+// Adds the numbers of the entries.
+fn push_group(numbers: &mut Vec<usize>, group: &[Entry]) -> Result<(), NoMemory>
+    ensures ok { OnOk result (numbers.new.items ≡ numbers.old.items ++ numbers_in group.now) }
+{
+    for i in 0..group.len() {
+        numbers.push(group[i].number)?;
+    }
+    Ok(())
+}
+
+// Adds the number, if there is one.
+fn push_first(numbers: &mut Vec<usize>, first: Option<usize>) -> Result<(), NoMemory>
+    ensures ok { OnOk result (numbers.new.items ≡ numbers.old.items ++ option_to_list first) }
+{
+    if let Some(number) = first {
+        numbers.push(number)?;
+    }
+    Ok(())
+}
+
+impl Document<'_> {
+    // Adds the writes without a reply and without a condition that may have taken the pair, or for each kind the first
+    // that may have.
+    fn push_lost(&self, numbers: &mut Vec<usize>, pair: Pair) -> Result<(), NoMemory>
+        ensures ok { OnOk result (IsDocument self.now → AreIn numbers.old.items numbers.new.items × AreLostIn self.now.records.now pair numbers.new.items) }
+    {
+        push_first(numbers, self.writes.first_delete)?;
+        match self.versions.numbers(pair) {
+            FoundNumbers::One(k) => push_group(numbers, self.writes.given.group(k))?,
+            FoundNumbers::Unseen | FoundNumbers::Several => {
+                push_first(numbers, self.writes.first_index)?;
+                push_first(numbers, self.writes.first_create)?;
+            }
+        }
+        Ok(())
+    }
+
+    /// Returns the numbers of calls among which each one that may be performed on the row with the pair is represented.
+    /// `open` has the conflicts that are made and not answered.
+    pub fn candidates(
+        &self,
+        alloc: Global,
+        row: &Row,
+        pair: Pair,
+        open: &[usize],
+    ) -> Result<Vec<usize>, NoMemory>
+        ensures { IfOk result (λ numbers. IsDocument self.now → IsPositioned self.now.records.now row.now
+            → (event : ℕ) → AreOpen self.now.conflicts self.now.records.now event open.now
+            → AreCandidates self.now.conflicts self.now.records.now event (branch_of row.now) pair numbers.items) }
+    {
+        let mut numbers = Vec::new(alloc);
+        let version = self.versions.known.version_of(pair) as u64;
+        push_group(&mut numbers, self.writes.shown.group(version))?;
+        push_group(&mut numbers, self.writes.asked.group(row.position as u64))?;
+        self.push_lost(&mut numbers, pair)?;
+        numbers.extend_from_slice(open)?;
+        Ok(numbers)
+    }
+}

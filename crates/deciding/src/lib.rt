@@ -1,0 +1,28 @@
+//! Documents that no order explains, whatever became of the calls without a reply: a walk along the events of a document
+//! with a table of what it may be, the call at whose reply nothing is left, and the laws of it.
+//!
+//! ```text
+//! let records = history.records(doc)?;
+//! // Option<u64>: the call at which the document is ruled out.
+//! let call = ruled_out_at(alloc, &records, Conflicts::Plain)?;
+//! ```
+#![tactic(auto)]
+
+mod above;
+mod deciding;
+mod document;
+mod groups;
+mod known;
+pub mod laws;
+mod numbers;
+mod row;
+mod served;
+mod step;
+mod steps;
+mod tables;
+mod version;
+mod versions;
+mod walk;
+mod writes;
+
+pub use deciding::ruled_out_at;
