@@ -35,9 +35,9 @@ NEW_DOCUMENTS = 400_000
 SECONDS, A_SECOND = 60, 1_000
 
 
-def memory():
-    """How many bytes of memory this process takes now."""
-    pages = int(pathlib.Path("/proc/self/statm").read_text().split()[1])
+def memory(process="self"):
+    """How many bytes of memory a process takes now, this one unless the id of another is given."""
+    pages = int(pathlib.Path(f"/proc/{process}/statm").read_text().split()[1])
     return pages * os.sysconf("SC_PAGE_SIZE")
 
 

@@ -26,6 +26,9 @@ from casbench_recording.kept import Gone
 # How many documents come before the memory is measured first, and how many then; and by how many bytes it may have grown.
 BEFORE, THEN, MOST_GROWN = 10_000, 10_000, 3_000_000
 
+# How many documents are asked for at once.
+AT_ONCE = 500
+
 
 class GivenUp(ProxyTest):
     """A proxy that keeps few documents."""
@@ -62,6 +65,23 @@ class GivenUp(ProxyTest):
         self.assertEqual(asker.ask("GET", "/carts/_doc/d0")[0], 200)
         self.assertIn("judged: 60 documents, 61 calls; not judged: 0 documents, 0 calls", proxy.ended())
         self.assertRegex(self.check(), r"\Ayes docs=60 calls=61 ")
+
+
+class Missed(ProxyTest):
+    """A proxy that keeps as many documents as it does by itself."""
+
+    def test_documents_that_are_only_missed(self):
+        """Its memory doesn't grow with them."""
+        proxy = self.proxy(self.stand_in().url, "--part", "1000")
+        asker, grown = self.asker(proxy), []
+        for count in (BEFORE, THEN):
+            for first in range(0, count, AT_ONCE):
+                ids = [f"{len(grown)}-{first + it}" for it in range(AT_ONCE)]
+                status, body = asker.ask("POST", "/carts/_mget", {"ids": ids})
+                self.assertEqual((status, [it["found"] for it in body["docs"]]), (200, [False] * AT_ONCE))
+            grown.append(memory(proxy.process.pid))
+        self.assertLess(grown[1] - grown[0], MOST_GROWN)
+        self.assertIn(f", {BEFORE + THEN} calls; not judged: 0 documents, 0 calls", proxy.ended())
 
 
 class Kept(JudgeTest):

@@ -76,8 +76,9 @@ class HoldingCluster(Scripted):
 class InFlight(ProxyTest):
     """A write that was in flight when a proxy was killed, and is performed after the next one began."""
 
-    def recorded(self, seconds):
-        """A recording of gets of a document that is written late, by a proxy that waits so many seconds."""
+    def recorded(self, seconds=None):
+        """A recording of gets of a document that is written late, by a proxy that waits so long, or for its default."""
+        words = [] if seconds is None else ["--settle", str(seconds)]
         with HoldingCluster() as cluster:
             first = self.started("proxy", "--listen", "127.0.0.1:0", "--cluster", cluster.url, "--index", "carts", "--created-only", f"{self.file}.first")
             with Asker(first.port) as asker:
@@ -86,7 +87,7 @@ class InFlight(ProxyTest):
                 cluster.has_come.wait(60)
                 first.process.kill()
                 sender.join()
-            second = self.proxy(cluster.url, "--created-only", "--settle", str(seconds))
+            second = self.proxy(cluster.url, "--created-only", *words)
             if seconds:
                 self.assertEqual(second.process.stderr.readline(), waits(seconds))
             with Asker(second.port) as asker:
@@ -104,6 +105,11 @@ class InFlight(ProxyTest):
         self.assertEqual({it["id"] for it in self.lines() if it["e"] == "call"}, {"late", "new"})
         for options in ((), ("--profile", "opensearch")):
             self.assertRegex(self.check(*options), r"\Ayes docs=2 calls=2 ")
+
+    def test_a_proxy_that_is_started_without_the_option(self):
+        """It waits by itself, for longer than this takes, so that nothing is recorded."""
+        self.recorded()
+        self.assertFalse(os.path.exists(self.file) and self.check())
 
     def test_what_would_be_recorded_without(self):
         self.recorded(0)

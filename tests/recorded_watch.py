@@ -62,8 +62,7 @@ print(began, time.time(), file=open({log!r}, "a"), flush=True)
 print("yes docs=1 calls=1 left_out=0")
 """
 
-# Scripts in the place of casbench that give no verdict, and what is reported of each. They run it if asked for an empty text, so that they
-# seem to be one at first.
+# Scripts in the place of casbench that give no verdict of a history, and what is reported of each.
 NO_VERDICTS = {
     "says nothing": ("exit 0", "gave no verdict: ''"),
     "fails without a word": ("exit 1", "gave no verdict: ''"),
@@ -71,7 +70,7 @@ NO_VERDICTS = {
     "says it and more": ("echo yes docs=1 calls=1; echo and more", "gave no verdict: "),
     "says yes with the status of no": ("echo yes docs=1 calls=1 left_out=0; exit 1", "ended with status 1 and gave no verdict: "),
     "says refuted with the status of yes": ("echo refuted kind=stale-get; exit 0", "ended with status 0 and gave no verdict: "),
-    "repeats the history": ("cat", "gave no verdict: "),
+    "repeats the history": ("echo \"$history\"", "gave no verdict: "),
     "says too much": ("yes yes docs=1 calls=1 left_out=0", "wrote too much and ended with status -9: "),
     "has another status": ("echo a fault >&2; exit 64", "ended with status 64: a fault"),
     "is killed": ("kill -9 $$", "ended with status -9: "),
@@ -195,11 +194,9 @@ class OneHistory(WatchTest):
         self.assertIn("Not a directory: '/dev/null/casbench'", fault)
 
     def no_verdict(self, name, text, fault):
-        """A program that gives a verdict at first, and then none of a history that is refuted, is reported at once."""
-        folder = pathlib.Path(self.folder) / name
-        folder.mkdir()
-        script = self.script(f"if [ -e '{folder}/mark' ]; then {text}; else touch '{folder}/mark'; exec $casbench \"$@\"; fi", f"{name}/script")
-        status, printed, told = self.ended(self.watched(program=script))
+        """A program that gives a verdict of an empty text, and none of a history that is refuted, is reported at once."""
+        script = self.script(f"history=$(cat); if [ \"$history\" ]; then {text}; else exec $casbench \"$@\" </dev/null; fi", name)
+        status, printed, told = self.ended(self.watched("--every", "0.1", program=script))
         self.assertEqual((status, printed), (4, ""), told)
         self.assertIn(fault, told)
 
@@ -224,11 +221,11 @@ class OneHistory(WatchTest):
 
     def test_a_program_that_vanishes(self):
         """What was checked before doesn't stand for what came later."""
-        log = os.path.join(self.folder, "log")
-        program = self.script(f"echo >>{log}; exec $casbench \"$@\"")
+        log = pathlib.Path(self.folder) / "log"
+        program = self.logging(log)
         self.append(RIGHT)
         child = self.watched("--every", "0.1", program=program)
-        self.wait_for(lambda: os.path.exists(log) and pathlib.Path(log).read_text().count("\n") == 2)
+        self.wait_for_checks(log, RIGHT)
         os.remove(program)
         self.append(STALE)
         status, printed, fault = self.ended(child)
@@ -239,10 +236,10 @@ class OneHistory(WatchTest):
         """Lines that were checked, and are there no more, are no recording that is right."""
         for name, lose in (("removed", os.remove), ("cut off", lambda path: os.truncate(path, 0))):
             with self.subTest(name):
-                log = os.path.join(self.folder, name)
-                self.append(RIGHT)
-                child = self.watched("--every", "0.1", program=self.script(f"echo >>'{log}'; exec $casbench \"$@\""))
-                self.wait_for(lambda log=log: os.path.exists(log) and pathlib.Path(log).read_text().count("\n") == 2)
+                log = pathlib.Path(self.folder) / name
+                pathlib.Path(self.file).write_text(RIGHT)
+                child = self.watched("--every", "0.1", program=self.logging(log))
+                self.wait_for_checks(log, RIGHT)
                 time.sleep(0.3)
                 lose(self.file)
                 status, printed, fault = self.ended(child)
@@ -328,13 +325,13 @@ class Directory(WatchTest):
     def test_a_part_that_is_finished_without_more_lines(self):
         """It has its line once, though it isn't checked again."""
         self.append(RIGHT, f"{self.part}.growing")
-        log = os.path.join(self.folder, "log")
-        child = self.watched("--every", "0.1", program=self.script(f"echo >>{log}; exec $casbench \"$@\""))
-        self.wait_for(lambda: os.path.exists(log) and pathlib.Path(log).read_text().count("\n") == 2)
+        log = pathlib.Path(self.folder) / "log"
+        child = self.watched("--every", "0.1", program=self.logging(log))
+        self.wait_for_checks(log, RIGHT)
         os.rename(os.path.join(self.folder, f"{self.part}.growing"), os.path.join(self.folder, self.part))
         self.assertEqual(child.stdout.readline(), PART_LINE % (1, 1, 2))
         self.append(RIGHT, "parts/shard-0.ndjson")
-        self.wait_for(lambda: pathlib.Path(log).read_text().count("\n") == 3)
+        self.wait_for_checks(log, 2 * RIGHT)
         self.assertEqual(self.ended(child, signal.SIGTERM)[:2], (0, "2 parts: 2 yes, 0 no, 0 refused\n"))
 
     def test_lines_that_are_gone(self):
@@ -350,9 +347,9 @@ class Directory(WatchTest):
                 os.mkdir(self.file)
                 for it in (self.part, growing, "parts/shard-0.ndjson"):
                     self.append(RIGHT, it)
-                log = os.path.join(self.folder, name)
-                child = self.watched("--every", "0.1", program=self.script(f"echo >>'{log}'; exec $casbench \"$@\""))
-                self.wait_for(lambda log=log: os.path.exists(log) and pathlib.Path(log).read_text().count("\n") == 4)
+                log = pathlib.Path(self.folder) / name
+                child = self.watched("--every", "0.1", program=self.logging(log))
+                self.wait_for_checks(log, 3 * RIGHT)
                 lose(self.file)
                 status, printed, fault = self.ended(child)
                 self.assertEqual((status, printed), (4, PART_LINE % (1, 1, 2)), fault)

@@ -46,6 +46,14 @@ class WatchTest(FolderTest):
         path.chmod(0o755)
         return str(path)
 
+    def logging(self, log):
+        """A program that checks as casbench does, and writes each text that it is given to the end of a log."""
+        return self.script(f"tee -a '{log}' | $casbench \"$@\"")
+
+    def wait_for_checks(self, log, text):
+        """Waits until the texts that were checked are this one together."""
+        self.wait_for(lambda: log.exists() and log.read_text() == text)
+
     def ended(self, child, sent=None):
         """How it ends, after a signal if one is sent: its status, and what it writes on both outputs."""
         if sent is not None:
