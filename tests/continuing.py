@@ -6,14 +6,14 @@ exact search; and has parts of a simulated OpenSearch judged.
 
 PROGRAM is the built casbench; if it isn't named, the one that ./casbench would run. HISTORIES is how many are cut at
 moments of rest in each strict reading of a conflict (2,000), and half as many in full parts. They have 6 to 12 calls of
-1 to 3 documents on one shard or two, up to 30 % of the calls lost, honest ones and changed ones. Each is recorded in
-parts of 1 to 4 calls, so that a document moves at drawn moments at which none of its calls is open; and in parts that
-are full at 3 to 6 calls, so that it moves while its calls are open. In each weaker reading there are fewer, among them
-some of a store that keeps no more than this promise. Some fixed histories have a write whose effect comes late. What
-has to hold:
+1 to 3 documents on one shard or two, up to 30 % of the calls lost, half of these void, honest ones and changed ones.
+Each is recorded in parts of 1 to 4 calls, so that a document moves at drawn moments at which none of its calls is open;
+and in parts that are full at 3 to 6 calls, so that it moves while its calls are open. In each weaker reading there are
+fewer, among them some of a store that keeps no more than this promise. Some fixed histories have a write whose effect
+comes late. What has to hold:
 
-- If the whole is explained, by an order in which what a store did before it answered stands before the reply, each part
-  is explained as a check reads it.
+- If the whole is explained, by an order in which what a store did before it answered stands before the reply, and no
+  void call was performed, each part is explained as a check reads it.
 - Of the strict histories without an order, cut at moments of rest, at least 95 % have a part without one, and of those
   in several parts 90 %. What is missed is mostly a pair that two documents took, with one of them in a part of its own:
   pairs are compared within a part. A weaker reading sees less in a part.
@@ -30,7 +30,7 @@ from concurrent.futures import ProcessPoolExecutor
 from enum import Enum
 from typing import NamedTuple
 
-from drawing import Draws, lines, pair_taken
+from drawing import Draws, pair_taken
 from evidence import found_document, known_calls
 from exact import has_order
 from opensearch import NoFault, Recording, drawn_settings
@@ -40,7 +40,7 @@ from readings import OPENSEARCH, STRICT, Reading, conflicts_read, history_of, te
 from recordings import own_reading
 from ruled_out import FAULTS, Cluster, Due
 from small_drawing import changed
-from small_readings import READINGS, WEAKER, in_order, is_explained, shows_what_copies_may
+from small_readings import READINGS, WEAKER, in_order, is_explained, shows_what_copies_may, text_with_voids
 from texts import condition, conflict, create, created, delete, deleted, found, get, index, lost, missing, updated
 
 from casbench_recording.continuing import Continuing, TooManyLost
@@ -91,8 +91,7 @@ def drawn_history(draws, seed, faults):
     cluster.calls, cluster.lost = draws.below(7) + 6, draws.one_of((0, 0, 10, 20, 30))
     for _ in range(draws.one_of((0, 0, 1, 2))):
         cluster.faults.append(Due(draws.below(cluster.calls), draws.one_of(faults)))
-    events, shard_of = changed(draws, cluster.recorded())
-    return "".join(lines(events, shard_of))
+    return text_with_voids(draws, changed(draws, cluster.recorded()))
 
 
 # Fixed histories of one document, each with the readings in which they are explained: a conflict that hides a write; the
@@ -144,6 +143,16 @@ def operation_of(row):
     return Operation(row["op"], row["id"], row.get("k"), condition, row.get("shard", 0))
 
 
+def end(call, row):
+    """Ends a call by its line."""
+    if row["e"] == "reply":
+        call.reply(row["status"], row["body"])
+    elif row.get("void"):
+        call.void()
+    else:
+        call.lost()
+
+
 def record(recording, rows):
     """Records these lines. A document whose next part can't begin with all of its lost writes is recorded no longer."""
     calls = {}
@@ -154,8 +163,7 @@ def record(recording, rows):
             except TooManyLost:
                 continue
         elif row["n"] in calls:
-            call = calls[row["n"]]
-            call.reply(row["status"], row["body"]) if row["e"] == "reply" else call.lost()
+            end(calls[row["n"]], row)
 
 
 def done_by_the_reply(history, reading):
@@ -184,7 +192,7 @@ def may_be_met(write, pair, writes):
 
 def shows_what_was_met(history):
     """Whether each get found what a write may have made whose condition was met: no copy has anything else."""
-    calls = known_calls(history.events).values()
+    calls = [it for it in known_calls(history.events).values() if it.number not in history.voids]
     for get in filter(found_document, calls):
         writes = [it for it in calls if it.doc == get.doc and it.op.name != "get" and it.called < get.replied]
         if not any(it.op.k == get.reply.more and may_be_met(it, get.reply.pair, writes) for it in writes):
@@ -193,7 +201,8 @@ def shows_what_was_met(history):
 
 
 def is_explained_whole(history, reading):
-    """Whether the history is explained, by what a store did before it answered."""
+    """Whether the history is explained, by what a store did before it answered, and without what void calls ask for."""
+    reading = reading._replace(failed="trusted")
     calls = list(done_by_the_reply(history, reading))
     is_shown = reading.gets == "last" or shows_what_was_met(history) and shows_what_copies_may(history, reading)
     return is_shown and has_order(calls, conflicts_read(reading), history.shard_of)

@@ -132,13 +132,17 @@ class Copies:
         return self.events
 
 
-def small_history(seed):
-    """The small history of this seed; half of its lost calls are void."""
-    draws = Draws(seed)
-    events, shard_of = changed(draws, Copies(draws).recorded() if seed % 3 == 0 else recorded(draws, seed))
-    lost = [it.number for it in events if isinstance(it, Ending) and it.reply is None]
+def text_with_voids(draws, small):
+    """The text of a small history, half of whose lost calls are void."""
+    lost = [it.number for it in small.events if isinstance(it, Ending) and it.reply is None]
     voids = frozenset(it for it in lost if draws.below(2))
-    return text_of(History(events, voids, NAMES, tuple(map(shard_of, range(len(NAMES))))))
+    return text_of(History(small.events, voids, NAMES, tuple(map(small.shard_of, range(len(NAMES))))))
+
+
+def small_history(seed):
+    """The small history of this seed."""
+    draws = Draws(seed)
+    return text_with_voids(draws, changed(draws, Copies(draws).recorded() if seed % 3 == 0 else recorded(draws, seed)))
 
 
 # The exact search, straight from what a reading says of each call.
