@@ -28,8 +28,8 @@ from program_test import run_tests
 from recorded_real_client import PYTHON, needs_client
 from recordings import FolderTest, Started, judged
 
-# How many nodes there are, and how many recordings are made at once.
-NODES, AT_ONCE = 3, 3
+# How many nodes there are, how many recordings are made at once, and how many times a proxy is started.
+NODES, AT_ONCE, STARTS = 3, 3, 5
 
 # How the nodes are disturbed. Where they are stopped or cut off the application reads from the first one alone, which is
 # spared: one that is cut off goes on answering gets, and what these show may be old.
@@ -45,7 +45,7 @@ READS_OF_THE_FIRST = READS._replace(readers=(0,))
 # Few writes in a row of one document, so that versions are read before they are written again; more documents than
 # writes wait for a new primary; and writes of one node that are read from the others.
 WRITES = Load(documents=6, turns="swap swap swap put delete bulk update mget get")
-MANY_DOCUMENTS = WRITES._replace(documents=24, seconds=4)
+MANY_DOCUMENTS = WRITES._replace(documents=24, seconds=4, least=1_200)
 READS_OF_THE_OTHERS = WRITES._replace(readers=(1, 2), writers=(0,))
 
 
@@ -105,7 +105,7 @@ class Recorded:
         self.store.make("carts")
         nodes = [it for url in others for it in ("--node", f"127.0.0.1:0={url}")]
         arguments = ["--listen", "127.0.0.1:0", "--cluster", first, *nodes, "--index", "carts", file]
-        self.proxy = self.stack.enter_context(Started("proxy", *arguments))
+        self.proxy = self.started_proxy(arguments)
         self.urls = [self.proxy.url, *addresses(self.proxy, NODES - 1)]
 
     def __enter__(self):
@@ -113,6 +113,14 @@ class Recorded:
 
     def __exit__(self, *_):
         self.stack.close()
+
+    def started_proxy(self, arguments):
+        """A proxy that listens: one that ended at once, since the node that it asked was killed just then, is started again."""
+        for _ in range(STARTS):
+            proxy = self.stack.enter_context(Started("proxy", *arguments))
+            if proxy.port is not None:
+                return proxy
+        raise AssertionError(f"the proxy didn't start: {proxy.url}")
 
     @property
     def ports(self):
