@@ -29,6 +29,7 @@ WIDTH = 110
 ORDER = (
     "version_pair doc_register events api_lines history recorder workload repl_group disturbances places witness "
     "write_chain completing completing_by_rules completing_forward doc_check check_pool evidence readings ruled_out "
+    "deciding "
     "narrowing shard_numbers covers compose page story_reasons story_blocks story_drawings story stream_io "
     "result_lines recorded_runs command_line report seed_search casbench"
 ).split()

@@ -137,6 +137,22 @@ SECTIONS = (
         ),
     ),
     (
+        "Documents that are ruled out by tables",
+        "The same question, asked of all that a document may be between two events. A document is ruled out if there are "
+        "tables along its events, each of which covers what may follow from the one before it, and the one behind some "
+        "reply is empty. Then no order explains the document, and none the history. That is a law "
+        "(`RuledOutHaveNoOrder`). The program doesn't use these definitions yet.",
+        (
+            "deciding/specs/Reported.antt",
+            "deciding/specs/Positions.antt",
+            "deciding/specs/Records.antt",
+            "deciding/specs/Branches.antt",
+            "deciding/specs/Steps.antt",
+            "deciding/specs/Tables.antt",
+            "deciding/specs/Laws.antt",
+        ),
+    ),
+    (
         "What else is written and read",
         "",
         (
