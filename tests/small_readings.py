@@ -299,8 +299,9 @@ FIXED = [
     ("a void write that is read", index(0) + VOID + get(1) + found(1, 1, 0), TRUSTED, False, "no-writer"),
     ("the same under the profile", index(0) + VOID + get(1) + found(1, 1, 0), OPENSEARCH, False, "no-writer"),
     ("the same if it may be performed", index(0) + VOID + get(1) + found(1, 1, 0), STRICT, True, "yes"),
-    # the profile explains it, and the search misses each order
-    ("a delete of a hidden write", AFTER_HIDDEN, OPENSEARCH, True, "no"),
+    # (its conflict is turned into the write that the delete asks for)
+    ("a delete of a hidden write", AFTER_HIDDEN, OPENSEARCH, True, "yes"),
+    # (nothing explains it, and no evidence shows that)
     ("a write that was performed three times", THRICE, OPENSEARCH, False, "no"),
 ]
 
