@@ -2,7 +2,7 @@
 
 from typing import Any, Dict, Iterator, List, Optional, Sequence, Union
 
-from .asked import Asked, Part
+from .asked import Asked, Part, Update
 from .asking import Asking
 from .bodies import MOST_READ
 from .bulk import items_of_long
@@ -19,6 +19,9 @@ MOST_AT_ONCE = 500
 
 OF_SEVERAL = (BULK, Kind.MULTIPLE_GET, SWEEP)
 """Requests on several documents, or on ones that nobody names."""
+
+RESULTS = {201: "created", 200: "updated"}
+"""The result of a write of a value that was performed, by its status."""
 
 PERFORMED = {"created", "updated", "deleted", "not_found"}
 """The results of writes that were performed."""
@@ -43,8 +46,14 @@ class Answering:
                 pass
             return
         try:
-            if not self._recording.has_ended:
-                self._heed_answer(asked, status, content, length)
+            if self._recording.has_ended:
+                return
+            (part,) = asked.parts
+            assert part is not None
+            if asked.is_head:
+                self._answered(part, status, missing_by_length(self._ledger.shape, part.id, length) if status == 404 else {})
+            else:
+                self._answered(part, status, read_reply(part.op, status, content) or object_of(content))
         except Exception as fault:
             self._recording.end_by(fault)
 
@@ -66,19 +75,9 @@ class Answering:
             if call is not None:
                 lost.append(call)
                 if part.turn:
-                    heed_write(part, Loss.UNKNOWN, 0, {})
+                    heed_write(part, Loss.UNKNOWN, 0, {}, None)
         self._recording.lose(lost)
-        for part in filter(None, asked.parts):
-            self._ledger.rests(part)
-
-    def _heed_answer(self, asked: Asked, status: int, content: Optional[bytes], length: Optional[int]) -> None:
-        """Writes what an answer says to a request that makes one call."""
-        (part,) = asked.parts
-        assert part is not None
-        if asked.is_head:
-            self._answered(part, status, missing_by_length(self._ledger.shape, part.id, length) if status == 404 else {})
-        else:
-            self._answered(part, status, read_reply(part.op, status, content) or object_of(content))
+        self._ledger.rest(asked.parts)
 
     def _heed_answer_to_several(self, asked: Asked, status: int, content: Optional[bytes]) -> Iterator[None]:
         """Writes what an answer says to a request on several documents."""
@@ -105,8 +104,8 @@ class Answering:
                 yield
             if self._recording.has_ended:
                 return
-            self._endings = []
-            for part in parts[at : at + MOST_AT_ONCE]:
+            self._endings, some = [], parts[at : at + MOST_AT_ONCE]
+            for part in some:
                 try:
                     item = next(items, None)
                 except (ValueError, RecursionError):
@@ -114,9 +113,7 @@ class Answering:
                 if part is not None:
                     self._answered_item(part, item, member)
             self._flush()
-            for part in parts[at : at + MOST_AT_ONCE]:
-                if part is not None:
-                    self._ledger.rests(part)
+            self._ledger.rest(some)
 
     def _answered_item(self, part: Part, item: Any, member: str) -> None:
         """Writes what an answer says of an item."""
@@ -134,43 +131,44 @@ class Answering:
             body = None
         if not part.id:
             self._answered_new(part, status, body)
-        elif part.call is not None and part.document is not None:
+        elif part.call is not None and (document := part.document) is not None:
             if body is not None and body.get("_id", part.id) != part.id:
                 self._ledger.untold(part.id, "an answer told another id")
                 self._ledger.untold(str(body["_id"]), "an answer told this id, and another one was asked for")
                 body = None
-            ending = self._reply(part, status, body) if body is not None else Loss.UNKNOWN
-            self._end(part, ending, status, body or {})
+            pair = pair_of(body)
+            ending = self._reply(part, document, status, body, pair) if body is not None else Loss.UNKNOWN
+            self._end(part, ending, status, body or {}, pair)
 
-    def _reply(self, part: Part, status: int, body: Body) -> Union[Reply, Loss]:
-        """The status and the text of the body that are written for a reply, or what is known without them."""
-        document = part.document
-        assert document is not None
-        pair, result, value = pair_of(body), body.get("result"), part.operation.value
+    def _reply(self, part: Part, document: Document, status: int, body: Body, pair: Optional[Pair]) -> Union[Reply, Loss]:
+        """The status and the text of the body that are written for a reply which shows this pair, or what is known without them."""
         text: Optional[str] = None
         if part.op == "get":
-            if status == 200 and body.get("found") is True and pair is not None:
+            if status == 200 and pair is not None and body.get("found") is True:
                 number = self._number_shown(part, document, pair, body.get("_source"))
                 if number is None:
                     return Loss.UNKNOWN
                 text = text_of_find(part.id, pair, number)
-        elif (status >= 400 or part.is_update) and is_void(part, status, body):
+        elif (status >= 400 or isinstance(part, Update)) and is_void(part, status, body, pair):
             return Loss.VOID
         elif status == 409 and not part.is_sure:
             return Loss.OVER if type_of(body.get("error")) == CONFLICT else Loss.UNKNOWN
-        elif pair is not None and value is not None and (status, result) in ((201, "created"), (200, "updated")):
+        elif pair is not None and (value := part.operation.value) is not None and status in RESULTS and body.get("result") == RESULTS[status]:
             document.written(pair, value)
-            text = text_of_write(part.id, "created" if status == 201 else "updated", pair)
+            text = text_of_write(part.id, RESULTS[status], pair)
         if document.state is UNSURE and not self._is_settled(part, status, body):
             return Loss.UNKNOWN
-        text = text or readable(part.id, body)
+        if text is None:
+            text = readable(part.id, body)
         return (status, text) if text is not None else Loss.UNKNOWN
 
     def _number_shown(self, part: Part, document: Document, pair: Pair, source: Any) -> Optional[int]:
         """The number of the version that a get found, with this source; None if it can't be determined."""
-        # (a reply of the usual form has its digest there)
-        digest = source if isinstance(source, Digest) else digest_of(source) if isinstance(source, dict) else None
-        return document.number_shown(pair, digest, part.shows_all and isinstance(source, (dict, Digest)))
+        if isinstance(source, Digest):
+            # (a reply of the usual form has it there)
+            return document.number_shown(pair, source, part.shows_all)
+        is_object = isinstance(source, dict)
+        return document.number_shown(pair, digest_of(source) if is_object else None, is_object and part.shows_all)
 
     def _is_settled(self, part: Part, status: int, body: Body) -> bool:
         """Whether a reply settles that the document wasn't there before. One that shows that it was ends its judgement."""
@@ -210,17 +208,17 @@ class Answering:
         elif self._asking.write_part(part):
             self._answered(part, status, body)
 
-    def _end(self, part: Part, ending: Union[Reply, Loss], status: int, body: Body) -> None:
+    def _end(self, part: Part, ending: Union[Reply, Loss], status: int, body: Body, pair: Optional[Pair]) -> None:
         """Ends the call of a part, by a reply or without one."""
         call = ending_call(part)
         if call is None:
             return
         if part.turn:
-            heed_write(part, ending, status, body)
+            heed_write(part, ending, status, body, pair)
         if self._endings is None:
             self._recording.write_ending(call, ending)
-            if not part.turn:
-                self._ledger.rests(part)
+            if not part.turn and self._ledger.is_endless:
+                self._ledger.rest((part,))
         else:
             self._endings.append((call, ending))
 
@@ -236,33 +234,32 @@ def ending_call(part: Part) -> Optional[Call]:
     if call is None or document is None:
         return None
     part.call = None
-    document.closes(call)
-    if part.turn:
-        document.ends_write()
+    document.closes(call, part.turn)
     return call if document.state is not NOT_JUDGED else None
 
 
-def is_void(part: Part, status: int, body: Body) -> bool:
+def is_void(part: Part, status: int, body: Body, pair: Optional[Pair]) -> bool:
     """Whether a reply proves that a write was not performed, at no attempt.
 
     An update is tried by the primary's node, which may have performed an earlier attempt and then finds nothing to change, or, after a
     delete, no document. If no other write was under way neither can be: what was acknowledged before is what it found.
     """
+    if not isinstance(part, Update):
+        return is_unperformed(status, body)
     if is_unperformed(status, body, part.is_handed_on):
         return True
     document = part.document
-    if document is None or not part.is_update or not changed_nothing(status, body):
+    if document is None or not changed_nothing(status, body):
         return False
     was_alone = part.is_alone and document.is_last(part.turn)
-    return was_alone and (status == 404 or part.before is not None and pair_of(body) == part.before)
+    return was_alone and (status == 404 or part.before is not None and pair == part.before)
 
 
-def heed_write(part: Part, ending: Union[Reply, Loss], status: int, body: Body) -> None:
+def heed_write(part: Part, ending: Union[Reply, Loss], status: int, body: Body, pair: Optional[Pair]) -> None:
     """Heeds what the ending of a write, and the reply, say of whether it was performed."""
     document = part.document
     assert document is not None
-    pair = pair_of(body) if not isinstance(ending, Loss) and body.get("result") in PERFORMED else None
-    if pair is not None:
+    if pair is not None and not isinstance(ending, Loss) and body.get("result") in PERFORMED:
         document.acknowledges(part.turn, pair)
     elif ending is Loss.VOID:
         document.wrote_nothing(part.operation)

@@ -1,11 +1,11 @@
 """What a request asks, once it was read: its calls, each with how its reply is read."""
 
 import re
-from typing import Any, List, Mapping, NamedTuple, Optional, Sequence, Tuple
+from typing import Any, List, Mapping, NamedTuple, Optional, Sequence
 
 from .bulk import Items
 from .documents import Document
-from .history import TAKES_A_CONDITION, Call, Operation, Pair
+from .history import TAKES_A_CONDITION, Call, Operation, Pair, pair_if
 from .routes import PARTS_OF_A_SOURCE, Kind, Route
 
 DIGITS = re.compile(r"[0-9]{1,19}")
@@ -15,6 +15,9 @@ OF_A_VERSION = {"version", "version_type"}
 
 OF_A_CONDITION = OF_A_VERSION | {"if_seq_no", "if_primary_term"}
 """Parameters of a condition."""
+
+HIDES_PARTS = PARTS_OF_A_SOURCE - {"_source"} | {"filter_path"}
+"""Parameters of a get whose reply may not show all of the source."""
 
 MANY_WRITES = 10**9
 """How many changes a bulk request may make that can't be read."""
@@ -37,20 +40,13 @@ NOBODY = Who()
 class Part:
     """A call that a request makes, and how its reply is read."""
 
-    __slots__ = ("id", "op", "words", "digest", "document", "call", "who", "sweeps", "operation", "is_sure", "is_update", "is_handed_on")
-    __slots__ += ("turn", "is_alone", "before")
+    __slots__ = ("id", "op", "words", "digest", "document", "call", "who", "sweeps", "operation", "turn")
 
-    # who asks, and how many sweeps there had been when it was made
+    # of a write whose id the answer tells, who asks, and how many sweeps there had been when it was made
     who: "Who"
     sweeps: int
-    # what its line says, and whether that is the whole condition, so that a conflict may be recorded
+    # what its line says
     operation: Operation
-    is_sure: bool
-    # the turn of a write among those of its document, 0 of a get
-    turn: int
-    # of an update whether each write before it was over and its outcome known, and the greatest pair that one was acknowledged with
-    is_alone: bool
-    before: Optional[Pair]
 
     def __init__(self, id: str, op: str, words: Mapping[str, Any], digest: Optional[int] = None) -> None:
         # (an empty id if the answer tells it)
@@ -60,16 +56,37 @@ class Part:
         # of the source that is written, if it can be known
         self.digest = digest
         self.document: Optional[Document] = None
-        # whether it is an update, and whether its request is one alone, which is handed to the primary's node
-        self.is_update = self.is_handed_on = False
+        # the turn of a write among those of its document, 0 of a get
+        self.turn = 0
         # its call, once the line is written
         self.call: Optional[Call] = None
+
+    @property
+    def is_sure(self) -> bool:
+        """Whether the line of a write says all that it depends on, so that a conflict may be recorded."""
+        words = self.words
+        return OF_A_CONDITION.isdisjoint(words) or self.operation.condition is not None and OF_A_VERSION.isdisjoint(words)
 
     @property
     def shows_all(self) -> bool:
         """Whether the reply to a get shows the whole source."""
         words = self.words
-        return not words or words.get("_source", True) in (True, "true") and not (PARTS_OF_A_SOURCE - {"_source"} | {"filter_path"}) & set(words)
+        return not words or words.get("_source", True) in (True, "true") and HIDES_PARTS.isdisjoint(words)
+
+
+class Update(Part):
+    """An update, of which the primary's node may make several attempts."""
+
+    __slots__ = ("is_handed_on", "is_alone", "before")
+
+    # whether each write before it was over and its outcome known, and the greatest pair that one was acknowledged with
+    is_alone: bool
+    before: Optional[Pair]
+
+    def __init__(self, id: str, words: Mapping[str, Any], is_handed_on: bool) -> None:
+        super().__init__(id, "index", words)
+        # whether its request is one alone, which is handed to the primary's node
+        self.is_handed_on = is_handed_on
 
 
 class Asked:
@@ -150,13 +167,9 @@ class AskedInPieces(Asked):
         return any(it is not None for it in self.parts)
 
 
-def condition_of(op: str, words: Mapping[str, Any]) -> Tuple[Optional[Pair], bool]:
-    """The condition that the words of a write tell, and whether that is all that it depends on."""
-    if not words:
-        return None, True
+def condition_of(op: str, words: Mapping[str, Any]) -> Optional[Pair]:
+    """The condition that the words of a write name, if they name one."""
     seq, term = str(words.get("if_seq_no")), str(words.get("if_primary_term"))
     if op not in TAKES_A_CONDITION or not (DIGITS.fullmatch(seq) and DIGITS.fullmatch(term)):
-        return None, OF_A_CONDITION.isdisjoint(words)
-    if not 1 <= int(term) < 2**63 or not int(seq) < 2**63:
-        return None, False
-    return Pair(int(term), int(seq)), OF_A_VERSION.isdisjoint(words)
+        return None
+    return pair_if(int(term), int(seq))

@@ -3,11 +3,11 @@
 import re
 from typing import Any, Dict, Iterator, List, Mapping, Optional, Sequence
 
-from .asked import NOBODY, Asked, AskedInPieces, Part, Who, condition_of
+from .asked import NOBODY, OF_A_CONDITION, Asked, AskedInPieces, Part, Update, Who, condition_of
 from .bodies import MOST_READ
 from .bulk import Item, Untellable
 from .documents import NOT_JUDGED, Document, digest_of_text, object_of
-from .history import WRITES_A_VALUE, Operation, length_of
+from .history import WRITES_A_VALUE, Operation, Pair, length_of
 from .inspection import Shape
 from .ledger import BEFORE, Ledger
 from .looks import may_write
@@ -84,10 +84,7 @@ class Asking:
         if kind is Kind.NEW:
             return self._made_one(kind, Part("", route.op, route.words, digest_of_text(content)), who)
         if kind is Kind.UPDATE:
-            part = self._update(route.id, route.words, object_of(content))
-            if part is not None:
-                part.is_handed_on = True
-            return self._made(kind, [part], who)
+            return self._made(kind, [self._update(route.id, route.words, object_of(content), True)], who)
         if kind is BULK:
             bulk = self.ask_in_pieces(route, who)
             self.take_items(bulk, content, True)
@@ -111,10 +108,11 @@ class Asking:
 
     def _made_one(self, kind: Kind, part: Part, who: Who, is_head: bool = False) -> Asked:
         """Writes the call of a request that makes one, before the request is passed on."""
-        part.who = who
-        if self._is_ready(part) and part.document is not None:
-            self.set_operation(part, part.document)
-            self._recording.write_calls_of(self._recording.history.of_shard(part.document.shard), [part])
+        document = self._document_of(part, who)
+        if document is not None:
+            self.set_operation(part, document, who)
+            recording = self._recording
+            recording.write_calls_of(recording.history.of_shard(document.shard), [part])
         return Asked(kind, (part,), is_head)
 
     def _made(self, kind: Kind, parts: List[Optional[Part]], who: Who) -> Optional[Asked]:
@@ -125,45 +123,40 @@ class Asking:
 
     def _write_parts(self, parts: Sequence[Optional[Part]], who: Who) -> None:
         """Writes the calls of the parts."""
-        for it in parts:
-            if it is not None:
-                it.who = who
-        ready = [it for it in parts if it is not None and self._is_ready(it)]
+        asked = [(it, self._document_of(it, who)) for it in parts if it is not None]
         judged = []
-        for it in ready:
+        for it, document in asked:
             # (another part of the request may have ended the judgement of a document)
-            if it.document is not None and it.document.state is not NOT_JUDGED:
-                self.set_operation(it, it.document)
+            if document is not None and document.state is not NOT_JUDGED:
+                self.set_operation(it, document, who)
                 judged.append(it)
         self._recording.write_calls(judged)
 
     def write_part(self, part: Part) -> bool:
-        """Writes the call of a part, if it is one of a document that is judged; tells whether it is."""
-        if not self._is_ready(part) or part.document is None:
+        """Writes the call of a part whose id an answer told, if it is one of a document that is judged; tells whether it is."""
+        document = self._document_of(part, part.who)
+        if document is None:
             return False
-        self.set_operation(part, part.document)
+        self.set_operation(part, document, part.who)
         self._recording.write_calls([part])
         return True
 
-    def _is_ready(self, part: Part) -> bool:
-        """Whether a part is a call of a document that is judged, or of one whose id the answer tells."""
-        ledger = self._ledger
-        part.sweeps = ledger.sweeps
-        if not part.id:
+    def _document_of(self, part: Part, who: Who) -> Optional[Document]:
+        """The document of a part, or None if it isn't judged, or if only the answer tells its id."""
+        ledger, id = self._ledger, part.id
+        if not id:
             ledger.unnamed += 1
-            return True
+            part.who, part.sweeps = who, ledger.sweeps
+            return None
         if ledger.is_settling:
             if part.op != "get":
-                ledger.untold(part.id, BEFORE)
-            ledger.left_out += 1
-            return False
-        shape = ledger.shape
-        if shape is not None and shape.shards == 1 or self._is_known(part, shape):
-            part.document = ledger.document(part.id)
-        if part.document is None:
-            ledger.left_out += 1
-            return False
-        return True
+                ledger.untold(id, BEFORE)
+        elif (shape := ledger.shape) is not None and shape.shards == 1 or self._is_known(part, shape):
+            document = part.document = ledger.document(id)
+            if document is not None:
+                return document
+        ledger.left_out += 1
+        return None
 
     def _is_known(self, part: Part, shape: Optional[Shape]) -> bool:
         """Whether the shard of a part is known, in an index that isn't there or has several. A write of which it isn't ends the judgement
@@ -175,19 +168,20 @@ class Asking:
             self._ledger.untold(part.id, why if shape is None else "it was written with a routing, in an index of several shards")
         return False
 
-    def set_operation(self, part: Part, document: Document) -> None:
+    def set_operation(self, part: Part, document: Document, who: Who) -> None:
         """Sets what the line of a part's call says."""
-        condition, part.is_sure = condition_of(part.op, part.words)
+        op = part.op
+        condition: Optional[Pair] = None
         number: Optional[int] = None
-        if part.op in WRITES_A_VALUE:
-            number = document.number_to_write(part.digest)
-            document.writes += 1
-        elif part.op == "delete":
-            document.deletes += 1
-        if part.is_update:
-            part.is_alone, part.before = document.is_settled, document.acknowledged
-        part.turn = document.begins_write() if part.op != "get" else 0
-        part.operation = Operation(part.op, document.id, number, condition, document.shard, *part.who)
+        if op != "get":
+            if not OF_A_CONDITION.isdisjoint(part.words):
+                condition = condition_of(op, part.words)
+            if isinstance(part, Update):
+                part.is_alone, part.before = document.is_settled, document.acknowledged
+            part.turn = document.begins_write(op)
+            if op != "delete":
+                number = document.number_to_write(part.digest)
+        part.operation = Operation(op, part.id, number, condition, document.shard, who.client, who.node)
 
     # What a request says of a document
 
@@ -201,14 +195,12 @@ class Asking:
         for it in ids:
             self._ledger.untold(it, why)
 
-    def _update(self, id: str, words: Mapping[str, Any], body: Optional[Body]) -> Optional[Part]:
+    def _update(self, id: str, words: Mapping[str, Any], body: Optional[Body], is_handed_on: bool) -> Optional[Part]:
         """The call that an update is: a write of a source that nobody knows, where it can't be a delete."""
         if body is None or not OF_A_PARTIAL_UPDATE.issuperset(body):
             self._left_out(id, "it was updated, perhaps by a script")
             return None
-        part = Part(id, "index", {"if_seq_no": None, **words})
-        part.is_update = True
-        return part
+        return Update(id, {"if_seq_no": None, **words}, is_handed_on)
 
     def _item(self, item: Item, asked: AskedInPieces) -> Optional[Part]:
         """The call of an item of a bulk request, or None where it is none of the index, or can't be determined."""
@@ -228,12 +220,11 @@ class Asking:
             words = {"routing": index, **words}
         if words.get("pipeline", "_none") != "_none":
             raise Untellable(f"a bulk request with pipeline={str(words['pipeline'])[:200]}")
-        strange = sorted(set(words) - OF_AN_ITEM)
-        if strange:
-            self._left_out(id, f"it was written by a bulk request, with {strange[0][:200]}")
+        if not OF_AN_ITEM.issuperset(words):
+            self._left_out(id, f"it was written by a bulk request, with {min(set(words) - OF_AN_ITEM)[:200]}")
             return None
         if op == "update":
-            return self._update(id, words, object_of(item.source))
+            return self._update(id, words, object_of(item.source), False)
         op = "create" if op == "index" and words.get("op_type") == "create" else op
         return Part(id, op, words, digest_of_text(item.source))
 

@@ -3,13 +3,17 @@
 A bulk request may be long. Nothing of it is kept but the item at hand.
 """
 
+import json
 import re
-from typing import Any, Dict, Iterator, List, NamedTuple, Optional
+from typing import Any, Dict, Iterator, List, Optional, Sequence
 
-from .bodies import action_of, long_reader
+from .bodies import action_of, whole_number
 
 LONGEST_ACTION = 65_536
 """The most bytes of the line of an action."""
+
+UNREADABLE = "a bulk request with an action that can't be read"
+"""Why it can't be told what an item writes whose action isn't one object in an object."""
 
 Body = Dict[str, Any]
 
@@ -18,12 +22,15 @@ class Untellable(Exception):
     """It can't be determined which documents a request writes."""
 
 
-class Item(NamedTuple):
+class Item:
     """An item: what it does, the words of its action, and its source, or None if it has none or one that is too long."""
 
-    op: str
-    words: Body
-    source: Optional[bytes]
+    __slots__ = ("op", "words", "source")
+
+    def __init__(self, op: str, words: Body) -> None:
+        self.op = op
+        self.words = words
+        self.source: Optional[bytes] = None
 
 
 class Items:
@@ -32,11 +39,12 @@ class Items:
     def __init__(self, longest: int) -> None:
         # the most bytes of a source that is read
         self._longest = longest
+        # what came of the line at hand, and whether the rest of it is passed over
         self._line = bytearray()
-        # whether the rest of the line is passed over
         self._skips = False
         # the item whose source isn't there yet
         self._begun: Optional[Item] = None
+        # how many bytes came before that line, or of it if they are passed over
         self._taken = 0
         # up to where all items were given
         self.end = 0
@@ -44,54 +52,74 @@ class Items:
     def take(self, content: bytes, is_last: bool) -> List[Item]:
         """The items that are whole now. Raises Untellable where one can't be read."""
         items: List[Item] = []
-        pieces = content.split(b"\n")
-        for number, piece in enumerate(pieces):
-            is_ended = number < len(pieces) - 1
-            self._taken += len(piece) + is_ended
-            items += self._add(piece)
-            if is_ended or is_last and self._line:
-                items += self._line_ended()
-            if self._begun is None and not self._line:
+        *lines, rest = content.split(b"\n")
+        if lines and self._line:
+            lines[0] = bytes(self._line) + lines[0]
+            self._line.clear()
+        for line in lines:
+            self._taken += len(line) + 1
+            self._take_line(line, items)
+            if self._begun is None:
                 self.end = self._taken
+        self._take_piece(rest, items)
+        if is_last and self._line:
+            self._taken += len(self._line)
+            self._take_line(bytes(self._line), items)
+            self._line.clear()
+        if self._begun is None and not self._line:
+            self.end = self._taken
         if is_last and self._begun is not None:
             items.append(self._begun)
         return items
 
-    def _add(self, piece: bytes) -> List[Item]:
-        """Takes a piece of a line. An item whose source is too long is given before the end of it."""
+    def _take_piece(self, piece: bytes, items: List[Item]) -> None:
+        """Takes a piece of a line that hasn't ended. An item whose source is too long is given before the end of it."""
         if self._skips:
-            return []
-        self._line += piece
-        if self._begun is None and len(self._line) > LONGEST_ACTION:
-            raise Untellable("a bulk request with an action that is too long")
-        if self._begun is None or len(self._line) <= self._longest:
-            return []
-        self._line.clear()
-        self._skips = True
-        item, self._begun = self._begun, None
-        return [item]
+            self._taken += len(piece)
+        else:
+            self._line += piece
+            if self._begun is None:
+                check_action(self._line)
+            elif len(self._line) > self._longest:
+                items.append(self._begun)
+                self._begun, self._skips = None, True
+                self._taken += len(self._line)
+                self._line.clear()
 
-    def _line_ended(self) -> List[Item]:
-        """Takes the line that ended: the source of an item, or the next action. Gives the item, if it is whole."""
-        line = bytes(self._line)
-        self._line.clear()
+    def _take_line(self, line: bytes, items: List[Item]) -> None:
+        """Takes a line that ended: the source of an item, or the next action."""
+        item = self._begun
         if self._skips:
             self._skips = False
-            return []
-        if self._begun is not None:
-            item, self._begun = self._begun, None
-            return [item._replace(source=line)]
-        if not line.strip():
-            return []
+        elif item is not None:
+            if len(line) <= self._longest:
+                item.source = line
+            items.append(item)
+            self._begun = None
+        else:
+            check_action(line)
+            if line.strip():
+                self._begin(line, items)
+
+    def _begin(self, line: bytes, items: List[Item]) -> None:
+        """Takes an action, which is the whole of an item that has no source."""
         action = action_of(line)
-        if action is None or len(action) != 1 or not isinstance(next(iter(action.values())), dict):
-            raise Untellable("a bulk request with an action that can't be read")
+        if action is None or len(action) != 1:
+            raise Untellable(UNREADABLE)
         ((op, words),) = action.items()
-        item = Item(op, words, None)
+        if not isinstance(words, dict):
+            raise Untellable(UNREADABLE)
+        item = Item(op, words)
         if op == "delete":
-            return [item]
-        self._begun = item
-        return []
+            items.append(item)
+        else:
+            self._begun = item
+
+
+def check_action(line: Sequence[int]) -> None:
+    """Refuses the line of an action that is too long."""
+    if len(line) > LONGEST_ACTION:
+        raise Untellable("a bulk request with an action that is too long")
 
 
 START = re.compile(r'\{(?:"(?:took|ingest_took|errors)":(?:[0-9]+|true|false),)*"items":\[')
@@ -103,7 +131,7 @@ LONGEST_ITEM = 65_536
 WINDOW = 4 * LONGEST_ITEM
 """The most letters of a long answer that are looked at together, so of which an item that isn't read takes memory."""
 
-read_next = long_reader.raw_decode
+read_next = json.JSONDecoder(parse_int=whole_number).raw_decode
 
 
 def items_of_long(content: bytes) -> Iterator[Any]:

@@ -3,6 +3,7 @@
 import socket
 from typing import TYPE_CHECKING, Optional, Union
 
+from .asked import Who
 from .cluster_side import ClusterSide
 from .connecting import Connecting
 from .exchange import Exchange
@@ -43,7 +44,7 @@ class ClientConnection:
         self.proxy = proxy
         self.node = node
         # names the client in the lines of its calls, unless it says who it is
-        self.address = address_of(connection)
+        self.asker = Who(address_of(connection), node.name)
         self.stream = Stream(proxy.loop, connection, self)
         self.data = b""
         self.exchange = None

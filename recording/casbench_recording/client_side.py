@@ -57,15 +57,16 @@ class ClientSide(ClientConnection):
         if not end:
             return False
         request = (remembered_request if end <= LONGEST_REMEMBERED else read_request)(data[:end])
-        if request.fields.offers_upgrade or self.node.sent_host:
-            head, rest = passed_head(data[:end], self.node.sent_host), data[end:]
+        node = self.node
+        if node.sent_host or request.fields.offers_upgrade:
+            head, rest = passed_head(data[:end], node.sent_host), data[end:]
             data, end = head + rest, len(head)
         judge, length = self.proxy.judge, request.length
-        route = judge.route(request.method, request.target, self.node.paths)
+        route = judge.route(request.method, request.target, node.paths)
         exchange = self.exchange = Exchange(request, route)
         if end > LONGEST_REMEMBERED:
             exchange.weight = HEADS * end
-        is_bulk = route.kind is BULK and not judge.has_ended
+        is_bulk = route.kind is BULK
         if is_bulk and self.proxy.finding is not None and length is not None and end + length <= MOST_READ and not request.fields.encoding:
             # (it may make the index, and is read as a whole)
             is_bulk = False
@@ -84,7 +85,8 @@ class ClientSide(ClientConnection):
 
     def who(self, request: Request) -> Who:
         """Who asks, by a request's own word or by the address, and the node."""
-        return Who(request.fields.who or self.address, self.node.name)
+        client = request.fields.who
+        return Who(client, self.node.name) if client else self.asker
 
     def ask_and_send(self, exchange: Exchange, content: Optional[bytes], data: bytes, is_sent: bool, has_turn: bool = False) -> None:
         """Has the calls of a request written, and passes it on. The content is None where too much of it came to be read."""

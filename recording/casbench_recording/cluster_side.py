@@ -1,7 +1,7 @@
 """The connection to the cluster that a client's has: answers are passed on as they came, behind the lines of what they say."""
 
 import socket
-from typing import TYPE_CHECKING, Callable, Optional, Union
+from typing import TYPE_CHECKING, Iterator, Optional, Union
 
 from .answering import MOST_AT_ONCE
 from .asked import Making
@@ -121,10 +121,12 @@ class ClusterSide:
 
     def finish(self, exchange: Exchange, response: Response, content: bytes) -> None:
         """Writes what a whole answer says of calls, in steps if it says much."""
-        asked, exchange.asked, exchange.is_answered = exchange.asked, None, True
+        asked = exchange.asked
+        exchange.is_answered = True
         if asked is None:
             self.look(exchange)
             return
+        exchange.asked = None
         fields, proxy = response.fields, self.client.proxy
         plain: Optional[bytes] = content
         if fields.encoding or len(content) > MOST_READ:
@@ -135,10 +137,10 @@ class ClusterSide:
             proxy.judge.answered(asked, response.status, plain, fields.length)
             (self.deliver if proxy.finding is None else self.look)(exchange)
         else:
-            self.wait(lambda go_on: proxy.work(proxy.judge.answering(asked, response.status, plain), go_on), exchange)
+            self.work(proxy.judge.answering(asked, response.status, plain), exchange)
 
-    def wait(self, work: Callable[[Callable[[], None]], None], exchange: Exchange) -> None:
-        """Does what takes a while, and then goes on with the answer. Nothing more is taken meanwhile."""
+    def work(self, steps: Iterator[None], exchange: Exchange) -> None:
+        """Does what takes a while, in steps, and then goes on with the answer. Nothing more is taken meanwhile."""
         self.client.is_working = True
         self.stream.pause_reading()
 
@@ -147,7 +149,7 @@ class ClusterSide:
             self.client.resume_writing()
             self.look(exchange)
 
-        work(go_on)
+        self.client.proxy.work(steps, go_on)
 
     def look_and_tell(self, exchange: Exchange, making: Making, response: Response, content: Optional[bytes]) -> None:
         """Has the index looked at that a request may have made; then its call and its reply are written, and others go on."""

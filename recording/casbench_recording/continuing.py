@@ -10,7 +10,7 @@ import argparse
 import contextlib
 import os
 import time
-from typing import Callable, Dict, List, Optional, Sequence, Tuple, Union
+from typing import Callable, Dict, List, Optional, Sequence, Union
 
 from .history import MOST_EVENTS, Call, CallError, CallWriter, Ended, Ending, History, HistoryError, Loss, Operation, Reply, members_of_call
 from .past import Beginning, Past, told_by_ending
@@ -318,21 +318,13 @@ class Continuing(CallWriter):
         with self._lock:
             return call.number in self._open
 
-    def reply(self, call: Call, status: int, text: Optional[str]) -> None:
+    def end_one(self, call: Call, ending: Union[Reply, Loss]) -> None:
         with self._lock:
             whole = self._still_open(call)
             own = whole.recorded
             if own is not None:
-                own.history.reply(own, status, text)
-            self._end(whole, (status, text))
-
-    def lose_one(self, call: Call, loss: Loss = Loss.UNKNOWN) -> None:
-        with self._lock:
-            whole = self._still_open(call)
-            own = whole.recorded
-            if own is not None:
-                own.history.lose_one(own, loss)
-            self._end(whole, loss)
+                own.history.end_one(own, ending)
+            self._end(whole, ending)
 
     def end_all(self, endings: Sequence[Ending]) -> None:
         with self._lock:
@@ -359,7 +351,7 @@ class Continuing(CallWriter):
             raise CallError(f"call {call.number} has its ending already")
         return self._open[call.number]
 
-    def _end(self, call: WholeCall, ending: Union[Tuple[int, Optional[str]], Loss]) -> None:
+    def _end(self, call: WholeCall, ending: Union[Reply, Loss]) -> None:
         """Takes what became of a call, whose ending is written, if its part has one."""
         del self._open[call.number]
         call.document.past.ended(call, told_by_ending(call.operation, ending))

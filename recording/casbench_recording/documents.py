@@ -5,17 +5,17 @@ number, whatever the order of their keys, and no source is remembered.
 """
 
 import functools
-import hashlib
 import json
 from enum import Enum
+from hashlib import blake2b
 from typing import Any, Dict, Optional, Tuple
 
 from .bodies import read_json
 from .history import LONGEST_ID, Call, Operation, Pair, length_of
 from .past import Beginning, Version
 
-canonical = json.JSONEncoder(sort_keys=True, separators=(",", ":")).encode
-"""The text of a source, which is the same for equal ones."""
+canonical = json.JSONEncoder(sort_keys=True, separators=(",", ":"), check_circular=False).encode
+"""The text of a source, which is the same for equal ones. (What was read of a text holds nothing that holds it.)"""
 
 MOST_REMEMBERED = 8192
 """Of how many texts the digest is remembered."""
@@ -56,7 +56,7 @@ UNSURE, NOT_JUDGED = State.UNSURE, State.NOT_JUDGED
 class Document:
     """A document: its calls that are open, the last versions, and which of its writes may have been performed unseen."""
 
-    __slots__ = ("id", "shard", "state", "open", "writes", "deletes", "_written", "_forgotten", "_unknown")
+    __slots__ = ("id", "shard", "state", "open", "deletes", "_nothing", "_written", "_forgotten", "_unknown")
     __slots__ += ("_turns", "_open_writes", "_doubtful", "_has_lost", "acknowledged")
 
     def __init__(self, id: str, shard: int, state: State) -> None:
@@ -65,8 +65,8 @@ class Document:
         self.state = state
         # (in their order)
         self.open: Dict[Call, None] = NOTHING
-        # how many calls were made that may write the document, and that may delete it
-        self.writes = self.deletes = 0
+        # how many calls were made that may delete the document, and how many writes wrote nothing
+        self.deletes = self._nothing = 0
         # the last versions that a write was answered with, and the greatest pair of one that was forgotten, of a source that nobody knows
         self._written: Tuple[Version, ...] = ()
         self._forgotten: Optional[Pair] = None
@@ -88,19 +88,22 @@ class Document:
         return self._turns > 0
 
     @property
+    def writes(self) -> int:
+        """How many calls were made that may write the document and don't delete it."""
+        return self._turns - self.deletes - self._nothing
+
+    @property
     def is_settled(self) -> bool:
         """Whether each write that was called is over, and its outcome known."""
         return not (self._open_writes or self._has_lost or self._doubtful)
 
-    def begins_write(self) -> int:
+    def begins_write(self, op: str) -> int:
         """Counts a write that is called now; its turn."""
-        self._turns += 1
+        if op == "delete":
+            self.deletes += 1
         self._open_writes += 1
-        return self._turns
-
-    def ends_write(self) -> None:
-        """Counts a write that ends now."""
-        self._open_writes -= 1
+        self._turns = turn = self._turns + 1
+        return turn
 
     def is_last(self, turn: int) -> bool:
         """Whether no write was called after the one of this turn, and each before it was seen."""
@@ -110,7 +113,8 @@ class Document:
         """Notes that a write was acknowledged with this pair. Those that were answered before it was called take none behind it."""
         if turn > self._doubtful:
             self._doubtful = 0
-        if self.acknowledged is None or pair > self.acknowledged:
+        greatest = self.acknowledged
+        if greatest is None or pair > greatest:
             self.acknowledged = pair
 
     def doubts(self, operation: Operation, is_answered: bool) -> None:
@@ -129,10 +133,11 @@ class Document:
         else:
             self.open = {call: None}
 
-    def closes(self, call: Call) -> None:
-        """Forgets a call that ends. At rest little is kept."""
-        if self.open:
-            self.open.pop(call, None)
+    def closes(self, call: Call, turn: int) -> None:
+        """Forgets a call that ends, with the turn of its write, if it is one. At rest little is kept."""
+        if turn:
+            self._open_writes -= 1
+        self.open.pop(call, None)
         if not self.open:
             self.open = NOTHING
             if len(self._written) > PAIRS_AT_REST:
@@ -149,8 +154,8 @@ class Document:
 
     def written(self, pair: Pair, number: int) -> None:
         """Notes that a write was answered with this pair."""
-        self._written = (*self._written, Version(pair, number))
-        if len(self._written) > MOST_PAIRS:
+        versions = self._written = (*self._written, Version(pair, number))
+        if len(versions) > MOST_PAIRS:
             self._forget(MOST_PAIRS // 2)
 
     def _forget(self, count: int) -> None:
@@ -167,8 +172,7 @@ class Document:
             self._unknown -= 1
         if operation.op == "delete":
             self.deletes -= 1
-        else:
-            self.writes -= 1
+        self._nothing += 1
 
     def number_shown(self, pair: Pair, digest: Optional[int], is_whole: bool) -> Optional[int]:
         """The number that a get shows which found this pair; None if it can't be determined.
@@ -176,17 +180,15 @@ class Document:
         If a write of unknown source was answered with the pair it is that one's, whatever is shown; if one may have taken it unseen it
         can't be determined. If the source isn't shown as a whole it is that of the write which was answered with the pair.
         """
-        number: Optional[int] = None
         for version in reversed(self._written):
             if version.pair == pair:
-                number = version.value
+                if version.value == UNKNOWN or not is_whole:
+                    return version.value
                 break
-        if number is not None and (number == UNKNOWN or not is_whole):
-            return number
-        is_forgotten = number is None and self._forgotten is not None and pair <= self._forgotten
-        if not is_whole or digest is None or is_forgotten or number is None and self._unknown:
-            return None
-        return int(digest)
+        else:
+            if self._unknown or self._forgotten is not None and pair <= self._forgotten:
+                return None
+        return int(digest) if is_whole and digest is not None else None
 
     def goes_on(self, beginning: Beginning) -> None:
         """Forgets, as the document begins another part, the pairs that nothing in that part has.
@@ -203,15 +205,21 @@ class Document:
 class Digest(int):
     """A digest of a source, which no JSON text has in the place of one."""
 
+    __slots__ = ()
+
+
+LEAST = Digest(UNKNOWN + 1)
+"""The least digest."""
+
 
 def digest_of(source: Any) -> Optional[Digest]:
     """The number that equal sources have in common, and others don't, but for one pair of 2 to the power of 64; None of a source that is
     nested too deep to be compared."""
     try:
-        digest = hashlib.blake2b(canonical(source).encode(), digest_size=BYTES).digest()
+        digest = Digest.from_bytes(blake2b(canonical(source).encode(), digest_size=BYTES).digest(), "big")
     except RecursionError:
         return None
-    return Digest(max(int.from_bytes(digest, "big"), UNKNOWN + 1))
+    return digest if digest > UNKNOWN else LEAST
 
 
 def digest_of_object(text: Optional[bytes]) -> Optional[Digest]:

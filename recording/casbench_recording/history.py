@@ -67,8 +67,8 @@ HALF_OF_A_PAIR = re.compile(r"\\u[dD][89a-fA-F]|[\ud800-\udfff]")
 Body = Union[bytes, str, Dict[str, Any], List[Any], None]
 """A reply's body: its text as it was received, in bytes or as a string, or the value that it was read as, or nothing."""
 
-Reply = Tuple[int, str]
-"""The status of a reply, and the JSON text of its body."""
+Reply = Tuple[int, Optional[str]]
+"""The status of a reply, and the JSON text of its body, if it has one that is read."""
 
 
 class Loss(Enum):
@@ -145,15 +145,17 @@ class Call:
 
     def reply(self, status: int, body: Body = None) -> None:
         """Writes what was received: the status, and the body as it came. What is no JSON is left out, and so is unknown."""
-        self.history.reply(self, status, text_of(body))
+        if not is_whole(status, 0, 65_535):
+            raise CallError(f"a status is a whole number up to 65535, and not {status!r}")
+        self.history.end_one(self, (status, text_of(body)))
 
     def lost(self) -> None:
         """Writes that the outcome will never be known."""
-        self.history.lose_one(self)
+        self.history.end_one(self, Loss.UNKNOWN)
 
     def void(self) -> None:
         """Writes that nothing was performed, at no attempt. It is for a refusal that proves this, and for no other fault."""
-        self.history.lose_one(self, Loss.VOID)
+        self.history.end_one(self, Loss.VOID)
 
     # Replies by what they say, for a store that answers in other words than OpenSearch.
 
@@ -188,7 +190,7 @@ class Call:
 
     def tell(self, status: int, text: str) -> None:
         """Writes a reply with the text of a body that was made here."""
-        self.history.reply(self, status, text)
+        self.history.end_one(self, (status, text))
 
     def says(self, operations: Sequence[str], reply: str) -> None:
         """Refuses a reply that is none to this operation."""
@@ -294,12 +296,8 @@ class CallWriter(Histories):
         """Whether the call has no ending yet, and may be given one."""
         raise NotImplementedError
 
-    def reply(self, call: Call, status: int, text: Optional[str]) -> None:
-        """Writes the line of a reply, with the JSON text of its body, or without one where that is None."""
-        raise NotImplementedError
-
-    def lose_one(self, call: Call, loss: Loss = Loss.UNKNOWN) -> None:
-        """Writes that a call ends without a reply, and whether it is known that it was not performed."""
+    def end_one(self, call: Call, ending: Union[Reply, Loss]) -> None:
+        """Writes the line of a call's ending: its reply, or what is known without one."""
         raise NotImplementedError
 
     def end_all(self, endings: Sequence[Ending]) -> None:
@@ -359,12 +357,13 @@ class History(CallWriter):
     def call_one(self, operation: Operation) -> Call:
         members = members_of_call(operation)
         with self._lock:
-            if self.room < 1:
-                raise Ended
-            self._keep_shard(operation)
             number = self.calls
+            if self.has_ended or number >= self._most_calls:
+                raise Ended
+            if self._shards.setdefault(operation.id, operation.shard) != operation.shard:
+                raise self._on_other_shard(operation)
             self._write(f'{{"e":"call","n":{number},"t":{self._now()},{members}\n')
-            self.calls += 1
+            self.calls = number + 1
             self._open.add(number)
         return Call(self, number, operation)
 
@@ -374,55 +373,45 @@ class History(CallWriter):
             if self.room < len(operations):
                 raise Ended
             for it in operations:
-                self._keep_shard(it)
+                if self._shards.setdefault(it.id, it.shard) != it.shard:
+                    raise self._on_other_shard(it)
             first, now = self.calls, self._now()
             self._write("".join([f'{{"e":"call","n":{number},"t":{now},{it}\n' for number, it in enumerate(members, first)]))
             self.calls += len(members)
             self._open.update(range(first, self.calls))
         return [Call(self, number, it) for number, it in enumerate(operations, first)]
 
-    def _keep_shard(self, operation: Operation) -> None:
-        """Sees to it that a document stays on the shard that it was named on first."""
-        shard = self._shards.setdefault(operation.id, operation.shard)
-        if shard != operation.shard:
-            raise CallError(f"the document {operation.id!r} is on shard {shard}, and not on {operation.shard}")
+    def _on_other_shard(self, operation: Operation) -> CallError:
+        """Why an operation is refused that names a document on another shard than the first call did."""
+        return CallError(f"the document {operation.id!r} is on shard {self._shards[operation.id]}, and not on {operation.shard}")
 
     def is_open(self, call: Call) -> bool:
         with self._lock:
             return call.number in self._open
 
-    def reply(self, call: Call, status: int, text: Optional[str]) -> None:
-        if type(status) is not int or not 0 <= status <= 65_535:
-            raise CallError(f"a status is a whole number up to 65535, and not {status!r}")
-        self._end_one(call, rest_of_reply(status, text))
-
-    def lose_one(self, call: Call, loss: Loss = Loss.UNKNOWN) -> None:
-        self._end_one(call, loss)
+    def end_one(self, call: Call, ending: Union[Reply, Loss]) -> None:
+        number, rest = call.number, rest_of(ending)
+        with self._lock:
+            if self.has_ended:
+                raise Ended
+            if number not in self._open:
+                raise CallError(f"call {number} has its ending already")
+            self._write(line_of_ending(number, self._now(), rest))
+            self._open.remove(number)
+            if isinstance(rest, Loss):
+                self.lost += 1
+            else:
+                self.replies += 1
 
     def judge_in(self, reading: "Reading") -> None:
         with self._lock:
             self._most_calls = min(self._most_calls, reading.most_events // 2)
 
-    def _end_one(self, call: Call, rest: Rest) -> None:
-        """Writes the line of an ending, for a call that is open."""
-        with self._lock:
-            if self.has_ended:
-                raise Ended
-            number = call.number
-            if number not in self._open:
-                raise CallError(f"call {number} has its ending already")
-            self._write(line_of_ending(number, self._now(), rest))
-            if isinstance(rest, Loss):
-                self.lost += 1
-            else:
-                self.replies += 1
-            self._open.remove(number)
-
     def end_all(self, endings: Sequence[Ending]) -> None:
         rests: Dict[int, Rest] = {}
         for call, ending in endings:
             # (of two endings of a call the first one counts)
-            rests.setdefault(call.number, rest_of_reply(*ending) if isinstance(ending, tuple) else ending or Loss.UNKNOWN)
+            rests.setdefault(call.number, rest_of(ending or Loss.UNKNOWN))
         with self._lock:
             if not self.has_ended:
                 self._end_calls([it for it in rests.items() if it[0] in self._open])
@@ -473,10 +462,10 @@ class History(CallWriter):
         """Writes the lines of endings together; counts them."""
         now = self._now()
         self._write("".join([line_of_ending(number, now, rest) for number, rest in endings]))
-        replies = sum(not isinstance(rest, Loss) for _, rest in endings)
+        lost = len([rest for _, rest in endings if isinstance(rest, Loss)])
         self._open.difference_update([number for number, _ in endings])
-        self.replies += replies
-        self.lost += len(endings) - replies
+        self.replies += len(endings) - lost
+        self.lost += lost
 
     def _lose(self, numbers: Sequence[int]) -> None:
         """Writes the lines of lost calls, many of them together; counts them."""
@@ -493,9 +482,7 @@ class History(CallWriter):
 
     def _write(self, lines: str) -> None:
         """Puts lines at the end of the file. Where that fails, what was written of them is cut off again."""
-        data = lines.encode()
-        if self._note:
-            data = self._noted(data)
+        data = lines.encode() if not self._note else self._noted(lines.encode())
         length = len(data)
         try:
             count = self._file.write(data)
@@ -541,10 +528,18 @@ def is_whole(value: object, least: int, most: int) -> bool:
 
 def checked_pair(pair: Pair) -> Pair:
     """The pair, which is refused where it can't be one."""
-    term, seq = pair
-    if not is_whole(term, 1, 2**63 - 1) or not is_whole(seq, 0, 2**63 - 1):
-        raise CallError(f"a term is 1 to 2^63-1 and a sequence number 0 to 2^63-1, and not {term!r} and {seq!r}")
-    return Pair(term, seq)
+    checked = pair_if(*pair)
+    if checked is None:
+        raise CallError("a term is 1 to 2^63-1 and a sequence number 0 to 2^63-1, and not {!r} and {!r}".format(*pair))
+    return checked
+
+
+def pair_if(term: object, seq: object) -> Optional[Pair]:
+    """The pair of a term and a sequence number, or None where they can be none."""
+    # (what is shifted is 0 if both are below 2^63, and neither is negative)
+    if type(term) is int and type(seq) is int and term > 0 and not (term | seq) >> 63:
+        return Pair(term, seq)
+    return None
 
 
 def text_of_write(id: str, result: str, pair: Pair) -> str:
@@ -564,11 +559,7 @@ def text_of_missing(id: str) -> str:
 
 def pair_of(body: Any) -> Optional[Pair]:
     """The pair that a body tells, if any."""
-    if not isinstance(body, dict):
-        return None
-    term, seq = body.get("_primary_term"), body.get("_seq_no")
-    has_both = type(term) is int and type(seq) is int and 1 <= term < 2**63 and 0 <= seq < 2**63
-    return Pair(term, seq) if has_both else None
+    return pair_if(body.get("_primary_term"), body.get("_seq_no")) if isinstance(body, dict) else None
 
 
 @functools.lru_cache(maxsize=8192)
@@ -580,8 +571,13 @@ def member_of_id(id: str) -> str:
 
 
 @functools.lru_cache(maxsize=8192)
+def members_of_who(client: str, node: str) -> str:
+    """The members that name the client and the node, as far as they are known, remembered. Raises CallError at what can't be a name."""
+    return "".join([member_of(key, name) for key, name in (("client", client), ("node", node)) if name])
+
+
 def member_of(key: str, name: str) -> str:
-    """The same of what names a client or a node."""
+    """The member that names a client or a node."""
     if not isinstance(name, str) or not 1 <= length_of(name) <= LONGEST_CLIENT:
         raise CallError(f"a {key} is a text of at most {LONGEST_CLIENT} bytes, and not {name!r}")
     return f',"{key}":{compact(name)}'
@@ -596,10 +592,11 @@ def members_of_call(operation: Operation) -> str:
         members = f'{member_of_id(id)},"op":"{op}"'
     except TypeError as fault:
         raise CallError(f"an id is a text, and not {id!r}") from fault
-    if type(shard) is not int or not 0 <= shard <= 1023:
+    # (what is shifted is 0 if the number has so many bits, and isn't negative)
+    if type(shard) is not int or shard >> 10:
         raise CallError(f"a shard is a whole number up to 1023, and not {shard!r}")
     if op in WRITES_A_VALUE:
-        if type(value) is not int or not 0 <= value < 2**64:
+        if type(value) is not int or value >> 64:
             raise CallError(f"the value of a write is a whole number below 2^64, and not {value!r}")
         members += f',"k":{value}'
     if condition is not None:
@@ -607,10 +604,7 @@ def members_of_call(operation: Operation) -> str:
             raise CallError(f"a {op} has no condition")
         term, seq = checked_pair(condition)
         members += f',"if_seq_no":{seq},"if_primary_term":{term}'
-    if client:
-        members += member_of("client", client)
-    if node:
-        members += member_of("node", node)
+    members += members_of_who(client, node)
     return f'{members},"shard":{shard}}}' if shard else members + "}"
 
 
@@ -622,11 +616,14 @@ def line_of_ending(number: int, now: int, rest: Rest) -> str:
     return f'{LOST}{number},"t":{now}{void}}}\n'
 
 
-def rest_of_reply(status: int, text: Optional[str]) -> str:
-    """What stands behind the number of a reply: its status, and its body as it came.
+def rest_of(ending: Union[Reply, Loss]) -> Rest:
+    """What stands behind the number of an ending: of a reply its status, and its body as it came.
 
-    Where that is too long for a line, the members of the body that count stand for it; where they are too long, nothing.
+    Where the body is too long for a line, its members that count stand for it; where they are too long, nothing.
     """
+    if isinstance(ending, Loss):
+        return ending
+    status, text = ending
     start = f',"status":{status}'
     if text is None:
         return start

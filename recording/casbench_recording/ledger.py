@@ -1,7 +1,7 @@
 """The documents that a recorder which watches has seen: which of them are judged, and from when on others aren't, with the reason."""
 
 import re
-from typing import FrozenSet, Iterator, List, Optional, Sequence, Tuple
+from typing import FrozenSet, Iterable, Iterator, List, Optional, Sequence, Tuple
 
 from .asked import Part
 from .continuing import Continuing
@@ -41,7 +41,8 @@ class Ledger:
         self.names = shape.names if shape is not None else Names([name], [])
         # (a history has a bound of its own; a recording without end has none but this)
         self._endless = recording.history if isinstance(recording.history, Continuing) else None
-        self.documents = Kept(most_kept if self._endless is not None else None)
+        self.is_endless = self._endless is not None
+        self.documents = Kept(most_kept if self.is_endless else None)
         self._most_kept = most_kept
         # those that aren't judged any more
         self._gone = Gone()
@@ -59,12 +60,13 @@ class Ledger:
 
     def document(self, id: str) -> Optional[Document]:
         """The document, or None where it isn't judged."""
-        document = self.documents.get(id)
+        kept = self.documents
+        document = kept.get(id)
         if document is None:
             document = self._first_seen(id)
-        if self.documents.given_up:
+        if kept.given_up:
             self._give_up()
-        return document if document is not None and document.state is not NOT_JUDGED else None
+        return document
 
     def is_known(self, id: str) -> bool:
         """Whether a document was seen before, and is kept or isn't judged."""
@@ -79,16 +81,17 @@ class Ledger:
         why = f"it was not asked for while {self._most_kept // 2} others were"
         self._leave([(it, why) for it in given_up if not it.open])
 
-    def rests(self, part: Part) -> None:
-        """Forgets the document of a call that ended, if nothing was ever seen of it: it comes again as one that is seen first."""
-        document = part.document
-        if self._endless is None or document is None or document.was_written or document.open or self.first is not State.JUDGED:
+    def rest(self, parts: Iterable[Optional[Part]]) -> None:
+        """Forgets the documents of calls that ended, if nothing was ever seen of them: they come again as ones that are seen first."""
+        if self._endless is None or self.first is not State.JUDGED:
             return
-        if self._endless.forgets(document.id):
-            self.documents.pop(document.id)
+        for it in parts:
+            document = it.document if it is not None else None
+            if document is not None and not document.was_written and not document.open and self._endless.forgets(document.id):
+                self.documents.pop(document.id)
 
     def _first_seen(self, id: str) -> Optional[Document]:
-        """A document that is seen for the first time, or None where it isn't looked at."""
+        """A document that is seen for the first time, or None where it isn't looked at, or isn't judged."""
         if not is_id(id) or self.only is not None and id not in self.only or id in self._gone:
             return None
         shard = self.shape.shard_of(id) if self.shape else 0
@@ -100,7 +103,7 @@ class Ledger:
             self.mark(id, "it was first seen while a request changed documents that nobody named")
         elif self.unnamed and MADE_ID.fullmatch(id):
             self.mark(id, "it may be a document whose id no answer told")
-        return document
+        return document if document.state is not NOT_JUDGED else None
 
     def settled(self) -> None:
         """Begins the recording. A write that is open now and whose id only its answer gives is one from before it."""

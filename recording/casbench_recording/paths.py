@@ -46,7 +46,8 @@ def path_of(target: str) -> str:
 
 def parts_of(path: str, faults: str) -> List[str]:
     """The parts of a path as OpenSearch takes them. It drops all slashes at the end."""
-    return [text_of(it, faults) for it in path.rstrip("/")[1:].split("/")]
+    parts = path.rstrip("/")[1:].split("/")
+    return [text_of(it, faults) for it in parts] if "%" in path else parts
 
 
 def text_of(part: str, faults: str) -> str:

@@ -86,9 +86,9 @@ class Recording:
     def _called(self, parts: Sequence[Part], calls: Sequence[Call]) -> None:
         """Keeps the calls whose lines are written. A document that begins another part forgets what that has nothing of."""
         for part, call in zip(parts, calls):
-            part.call = call
-            if part.document is not None:
-                part.document.opens(call)
+            part.call, document = call, part.document
+            if document is not None:
+                document.opens(call)
         if self._moved:
             for document in {it.document for it in parts if it.document is not None and it.document.id in self._moved}:
                 document.goes_on(self._moved[document.id])
@@ -97,10 +97,7 @@ class Recording:
     def write_ending(self, call: Call, ending: Union[Reply, Loss]) -> None:
         """Writes the ending of a call. If the history ended in the meantime the call is lost by that."""
         try:
-            if isinstance(ending, Loss):
-                call.history.lose_one(call, ending)
-            else:
-                call.history.reply(call, *ending)
+            call.history.end_one(call, ending)
         except Ended:
             pass
         except HistoryError as fault:

@@ -232,8 +232,7 @@ def words_of(query: str, faults: str) -> Dict[str, str]:
     if not query:
         return {}
     if PLAIN_QUERY.fullmatch(query):
-        pairs = [it.partition("=") for it in query.split("&")]
-        return {name: value for name, _, value in pairs}
+        return dict([it.split("=") for it in query.split("&")])
     return dict(urllib.parse.parse_qsl(query.replace(";", "&"), keep_blank_values=True, errors=faults))
 
 
@@ -307,10 +306,10 @@ def checked(route: Route, known: "set[str]") -> Route:
     words = route.words
     if words.get("pipeline", "_none") != "_none":
         return Route(Kind.END, why=f"a write with pipeline={words['pipeline'][:LONGEST_WHY]}")
-    strange = sorted(set(words) - known)
-    if strange:
-        return Route(Kind.UNTOLD, id=route.id, why=f"it was written with the parameter {strange[0][:LONGEST_WHY]}")
-    return route
+    if known.issuperset(words):
+        return route
+    strange = min(set(words) - known)
+    return Route(Kind.UNTOLD, id=route.id, why=f"it was written with the parameter {strange[:LONGEST_WHY]}")
 
 
 def route_of_several(method: str, first: str, rest: List[str], words: Dict[str, str]) -> Route:

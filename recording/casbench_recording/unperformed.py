@@ -24,6 +24,9 @@ REJECTED, BY_COORDINATOR = "rejected_execution_exception", "rejected execution o
 ALWAYS_REFUSED = (405, 406, 413, 415)
 """The statuses of a method, a kind of content or a length that no node takes. Their `error` may be a text alone."""
 
+MAY_BE_UNPERFORMED = {400, 401, 403, 429, *ALWAYS_REFUSED}
+"""The statuses of replies that may state that a write was not performed."""
+
 NAMES_OF_AN_ITEM = {"_index", "_type", "_id"}
 """What stands in an item of the answer to a bulk request beside its status and its error."""
 
@@ -38,7 +41,9 @@ def is_unperformed(status: int, body: Optional[Body], is_handed_on: bool = False
 
     A request for one update is handed on to the primary's node, which coordinates the write: that may reject it after an earlier attempt.
     """
-    if not isinstance(body, dict) or body.get("status") != status or body.keys() - NAMES_OF_AN_ITEM != {"error", "status"}:
+    if status not in MAY_BE_UNPERFORMED or not isinstance(body, dict) or body.get("status") != status:
+        return False
+    if body.keys() - NAMES_OF_AN_ITEM != {"error", "status"}:
         return False
     error = body["error"]
     if status in ALWAYS_REFUSED:

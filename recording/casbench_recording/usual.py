@@ -60,5 +60,6 @@ def found(told: "re.Match[bytes]", content: bytes) -> Optional[Body]:
     if digest is None:
         return None
     index, id, seq, term = told.groups()
-    pair = {"_seq_no": int(seq), "_primary_term": int(term)}
-    return {"_index": index.decode(), "_id": id.decode(), **pair, "found": True, "_source": digest}
+    shown = {"_index": index.decode(), "_id": id.decode(), "found": True, "_source": digest}
+    shown["_seq_no"], shown["_primary_term"] = int(seq), int(term)
+    return shown
