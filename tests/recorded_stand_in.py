@@ -16,6 +16,8 @@ from recorded_through_proxy import Asker
 from recordings import Started
 from running import free_ports
 
+from casbench_recording.stand_in.shard_copy import Entry, ShardCopy
+
 # How many nodes there are, and how many seconds something may take to come about.
 NODES, PATIENCE = 3, 60
 
@@ -51,6 +53,18 @@ class StandInTest(ProgramTest):
 
 def pair_of(body):
     return body["_primary_term"], body["_seq_no"]
+
+
+class Copies(ProgramTest):
+    """What a copy of a shard has."""
+
+    def test_a_copy_that_rolls_a_document_back_to_nothing_shows_what_is_left(self):
+        kept, copy = Entry(0, 1, "a", 1, {"n": 1}), ShardCopy()
+        for entry in (kept, Entry(1, 1, "b", 1, {"n": 2}), Entry(2, 1, "b", 2, {"n": 3})):
+            copy.put(entry)
+        copy.roll_back(0)
+        copy.note_beginning()
+        self.assertEqual((copy.last("a"), copy.last("b"), copy.beginning), (kept, None, {"a": kept}))
 
 
 class Cluster(StandInTest):

@@ -79,8 +79,8 @@ class ShardCopy:
             self.entries.pop(self._forgotten, None)
 
     def note_beginning(self) -> None:
-        """Notes what the documents are now."""
-        self.beginning = {document: versions[-1] for document, versions in self.versions.items()}
+        """Notes what the documents are now. One of which each change was rolled back has no version."""
+        self.beginning = {document: versions[-1] for document, versions in self.versions.items() if versions}
 
     def last(self, document: str) -> Optional[Entry]:
         """The document's last change."""
