@@ -196,9 +196,9 @@ class OneHistory(WatchTest):
     def no_verdict(self, name, text, fault):
         """A program that gives a verdict of an empty text, and none of a history that is refuted, is reported at once."""
         script = self.script(f"history=$(cat); if [ \"$history\" ]; then {text}; else exec $casbench \"$@\" </dev/null; fi", name)
-        status, printed, told = self.ended(self.watched("--every", "0.1", program=script))
-        self.assertEqual((status, printed), (4, ""), told)
-        self.assertIn(fault, told)
+        status, printed, errors = self.ended(self.watched("--every", "0.1", program=script))
+        self.assertEqual((status, printed), (4, ""), errors)
+        self.assertIn(fault, errors)
 
     def test_programs_that_give_no_verdict(self):
         self.append(RIGHT + STALE)

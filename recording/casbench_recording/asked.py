@@ -42,7 +42,7 @@ class Part:
 
     __slots__ = ("id", "op", "words", "digest", "document", "call", "who", "sweeps", "operation", "turn")
 
-    # of a write whose id the answer tells, who asks, and how many sweeps there had been when it was made
+    # of a write whose id comes with the answer: who asks, and how many sweeps there had been when it was made
     who: "Who"
     sweeps: int
     # what its line says

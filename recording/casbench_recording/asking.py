@@ -133,7 +133,7 @@ class Asking:
         self._recording.write_calls(judged)
 
     def write_part(self, part: Part) -> bool:
-        """Writes the call of a part whose id an answer told, if it is one of a document that is judged; tells whether it is."""
+        """Writes the call of a part whose id came with the answer, if its document is judged; returns whether it is."""
         document = self._document_of(part, part.who)
         if document is None:
             return False
@@ -142,7 +142,7 @@ class Asking:
         return True
 
     def _document_of(self, part: Part, who: Who) -> Optional[Document]:
-        """The document of a part, or None if it isn't judged, or if only the answer tells its id."""
+        """The document of a part, or None if it isn't judged, or if its id comes with the answer."""
         ledger, id = self._ledger, part.id
         if not id:
             ledger.unnamed += 1

@@ -13,7 +13,7 @@ LONGEST_ACTION = 65_536
 """The most bytes of the line of an action."""
 
 UNREADABLE = "a bulk request with an action that can't be read"
-"""Why it can't be told what an item writes whose action isn't one object in an object."""
+"""Why an item isn't recorded whose action isn't one object in an object: what it writes is unknown."""
 
 Body = Dict[str, Any]
 
