@@ -160,13 +160,13 @@ class OneHistory(WatchTest):
 
     def test_a_term_that_starts_too_low(self):
         """It is reported with the last answer, which is yes all the same."""
-        for text, hint in ((ACKNOWLEDGED + GOES_ON, ""), (ACKNOWLEDGED + STARTS_LOW, HINT)):
+        for more, hint in ((GOES_ON, ""), (STARTS_LOW, HINT)):
             pathlib.Path(self.file).write_text(ACKNOWLEDGED)
             log = os.path.join(self.folder, "log")
             child = self.watched("--every", "0.1", "--", "touch", log)
             self.wait_for(lambda child=child: heeds_signals(child))
             time.sleep(0.3)
-            pathlib.Path(self.file).write_text(text)
+            self.append(more)
             status, printed, fault = self.ended(child, signal.SIGTERM)
             self.assertEqual((status, printed), (0, f"yes docs=3 calls=4 left_out=0\n{hint}"), fault)
             # (the command is for what is proved)
