@@ -18,10 +18,10 @@ use Rattle.deciding.specs.declared.version.FoundNumbers.{FoundNumbers}
 use Rattle.deciding.specs.declared.version.FoundNumbers.TheVariants.{Unseen, Several}
 use Rattle.deciding.specs.declared.writes.Lost.{Lost}
 use Rattle.deciding.specs.declared.writes.Lost.TheVariants as lost
-use Rattle.deciding.specs.Reported.{IsFoundWith}
+use Rattle.deciding.specs.Reported.{IsFoundWith, IsReportedOf}
 use Rattle.deciding.specs.Positions.{version_of}
 use Rattle.deciding.specs.Branches.{Branch, position}
-use Rattle.deciding.specs.Steps.{AgreesWith, MayHaveTaken, MayPerform, is_conflict, is_hidden, is_owed, is_same_bool, is_unconditional, moved_at, performed, without}
+use Rattle.deciding.specs.Steps.{AgreesWith, MayHaveTaken, MayPerform, is_conflict, is_hidden, is_lost_delete, is_lost_make, is_owed, is_plain_delete, is_plain_make, is_same_bool, is_unanswered, is_unconditional, moved_at, performed, without}
 use Rattle.deciding.specs.aids.Candidates.{AreCandidates, AreIn, AreLostIn, AreOpen, IsNumberOf, IsRepresented, numbers_in}
 use Rattle.deciding.specs.aids.Groups.{AreGroupsOf, Has}
 use Rattle.deciding.specs.aids.Versions.{AreNumbersFound}
@@ -95,6 +95,39 @@ same_effect a b kind one two = gives a kind one ∙ sym (gives b kind two) where
   gives (Delete (Some c)) k is = absurd (none_is_not_some k is)
   gives (Create n) k is = ap given (same_some lost.Create k is)
 
+-- what a call of a kind is without a reply and without a condition
+abbrev is_delete_kind : Lost → Bool
+is_delete_kind lost.Delete = true
+is_delete_kind lost.Index = false
+is_delete_kind lost.Create = false
+
+abbrev is_make_kind : Lost → Bool
+is_make_kind lost.Delete = false
+is_make_kind lost.Index = true
+is_make_kind lost.Create = true
+
+delete_of_op : (op : Op) (kind : Lost) → kind_of_op op ≡ Some kind → is_plain_delete op ≡ is_delete_kind kind
+delete_of_op Get kind is = absurd (none_is_not_some kind is)
+delete_of_op (Index k None) kind is = ap is_delete_kind (same_some lost.Index kind is)
+delete_of_op (Index k (Some c)) kind is = absurd (none_is_not_some kind is)
+delete_of_op (Delete None) kind is = ap is_delete_kind (same_some lost.Delete kind is)
+delete_of_op (Delete (Some c)) kind is = absurd (none_is_not_some kind is)
+delete_of_op (Create k) kind is = ap is_delete_kind (same_some lost.Create kind is)
+
+make_of_op : (op : Op) (kind : Lost) → kind_of_op op ≡ Some kind → is_plain_make op ≡ is_make_kind kind
+make_of_op Get kind is = absurd (none_is_not_some kind is)
+make_of_op (Index k None) kind is = ap is_make_kind (same_some lost.Index kind is)
+make_of_op (Index k (Some c)) kind is = absurd (none_is_not_some kind is)
+make_of_op (Delete None) kind is = ap is_make_kind (same_some lost.Delete kind is)
+make_of_op (Delete (Some c)) kind is = absurd (none_is_not_some kind is)
+make_of_op (Create k) kind is = ap is_make_kind (same_some lost.Create kind is)
+
+delete_of_kind : (r : Rec) (kind : Lost) → IsOfKind r kind → is_lost_delete r ≡ is_delete_kind kind
+delete_of_kind r kind is = ap (λ h. is_unanswered h && is_plain_delete r.op) is.unanswered ∙ delete_of_op r.op kind is.of_op
+
+make_of_kind : (r : Rec) (kind : Lost) → IsOfKind r kind → is_lost_make r ≡ is_make_kind kind
+make_of_kind r kind is = ap (λ h. is_unanswered h && is_plain_make r.op) is.unanswered ∙ make_of_op r.op kind is.of_op
+
 -- where one is a create all of its kind are
 same_create : (a b : Op) (kind : Lost) (k : ℕ) → kind_of_op a ≡ Some kind → kind_of_op b ≡ Some kind → a ≡ Create k → (n : ℕ) × (b ≡ Create n)
 same_create a b kind k one two is = by_op b (two ∙ (sym one ∙ ap kind_of_op is)) where
@@ -130,8 +163,8 @@ represents conflicts records event b j n s first q kind numbers is too at earlie
       silent = inl other.unanswered;
       unreported = taken.unreported;
       gives = λ known. same_effect first.op s.op kind other.of_op own.of_op ∙ taken.gives known;
-      found = found;
     });
+    found = found;
     rises = may.rises;
     before = may.before;
     passed = may.passed;
@@ -139,6 +172,8 @@ represents conflicts records event b j n s first q kind numbers is too at earlie
     missing = λ k create. (let c = same_create first.op s.op kind k other.of_op own.of_op create in may.missing c.0 c.1);
     agrees = subst (AgreesWith b.exists) (sym other.unanswered) tt;
     unspent = λ hides. absurd (true≢false (sym hides ∙ ap is_conflict other.unanswered));
+    deletes = λ lost. may.deletes (sym same_delete ∙ lost);
+    makes = λ lost. may.makes (sym same_make ∙ lost);
   };
   same = same_branch;
 } where
@@ -151,14 +186,25 @@ represents conflicts records event b j n s first q kind numbers is too at earlie
   taken : MayHaveTaken conflicts records s q
   taken = silent_takes conflicts records s q own.unanswered may.takes
 
-  behind : Bool → Option (ℕ × Reply) → ℕ → Bool → Branch
-  behind exists heard i owes = record {
+  exists : Bool
+  exists = is_some (value_of s.op)
+
+  same_delete : is_lost_delete first ≡ is_lost_delete s
+  same_delete = delete_of_kind first kind other ∙ sym (delete_of_kind s kind own)
+
+  same_make : is_lost_make first ≡ is_lost_make s
+  same_make = make_of_kind first kind other ∙ sym (make_of_kind s kind own)
+
+  behind : Bool → Option (ℕ × Reply) → ℕ → Bool → Bool → Bool → Branch
+  behind exists heard i owes deletes makes = record {
     least = Some q;
     exists = exists;
     flipped_at = moved_at (is_same_bool b.exists exists) b.flipped_at event;
     arrived_at = moved_at (position records b.least == position records (Some q)) b.arrived_at event;
     owed = cond (is_conflict heard) (without i b.owed) b.owed;
     spent = cond owes (i ∷ b.spent) b.spent;
+    deletes = cond deletes (suc b.deletes) b.deletes;
+    makes = cond makes (suc b.makes) b.makes;
   }
 
   unowed : (r : Rec) → r.heard ≡ None → is_owed r ≡ false
@@ -166,11 +212,13 @@ represents conflicts records event b j n s first q kind numbers is too at earlie
 
   same_branch : performed records event b n first q ≡ performed records event b j s q
   same_branch =
-      ap (λ e. behind e first.heard n (is_owed first)) (same_effect first.op s.op kind other.of_op own.of_op)
-      ∙ (ap (λ h. behind (is_some (value_of s.op)) h n (is_owed first)) other.unanswered
-      ∙ (ap (behind (is_some (value_of s.op)) None n) (unowed first other.unanswered)
-      ∙ sym (ap (λ h. behind (is_some (value_of s.op)) h j (is_owed s)) own.unanswered
-      ∙ ap (behind (is_some (value_of s.op)) None j) (unowed s own.unanswered))))
+      ap (λ e. behind e first.heard n (is_owed first) (is_lost_delete first) (is_lost_make first)) (same_effect first.op s.op kind other.of_op own.of_op)
+      ∙ (ap (λ d. behind exists first.heard n (is_owed first) d (is_lost_make first)) same_delete
+      ∙ (ap (behind exists first.heard n (is_owed first) (is_lost_delete s)) same_make
+      ∙ (ap (λ h. behind exists h n (is_owed first) (is_lost_delete s) (is_lost_make s)) other.unanswered
+      ∙ (ap (λ o. behind exists None n o (is_lost_delete s) (is_lost_make s)) (unowed first other.unanswered)
+      ∙ sym (ap (λ h. behind exists h j (is_owed s) (is_lost_delete s) (is_lost_make s)) own.unanswered
+      ∙ ap (λ o. behind exists None j o (is_lost_delete s) (is_lost_make s)) (unowed s own.unanswered))))))
 
 -- ---- the writes without a reply and without a condition
 
@@ -218,18 +266,13 @@ number_of_create (Delete None) is = let impossible : lost.Delete ≡ lost.Create
 number_of_create (Delete (Some c)) is = absurd (none_is_not_some lost.Create is)
 number_of_create (Create k) is = (k, refl)
 
--- what is asked of a call that may be performed and has no reply
-taken_by_lost : (conflicts : Conflicts) (records : List Rec) (event : ℕ) (b : Branch) (j : ℕ) (s : Rec) (q : Pair) (kind : Lost) → kind_of s ≡ Some kind → MayPerform conflicts records event b j s q
-    → MayHaveTaken conflicts records s q
-taken_by_lost conflicts records event b j s q kind is may = silent_takes conflicts records s q (of_kind s kind is).unanswered may.takes
-
 -- where deletes are represented, each is
 deletes_in : (conflicts : Conflicts) (records : List Rec) (event : ℕ) (b : Branch) (j : ℕ) (s : Rec) (q : Pair) (numbers : List ℕ) (o : Option ℕ) → AreOrdered records
     → IsFirst records lost.Delete o → ((n : ℕ) → o ≡ Some n → IsNumberOf numbers n) → kind_of s ≡ Some lost.Delete → MayPerform conflicts records event b j s q
     → IsRepresented conflicts records event b j s q numbers
 deletes_in conflicts records event b j s q numbers o ordered first listed is may =
     by_first conflicts records event b j s q lost.Delete numbers o ordered first listed is
-    (λ other too k found. absurd (none_is_not_some k (sym (no_number s.op (of_kind s lost.Delete is).of_op) ∙ (taken_by_lost conflicts records event b j s q lost.Delete is may).found k found))) may
+    (λ other too k found. absurd (none_is_not_some k (sym (no_number s.op (of_kind s lost.Delete is).of_op) ∙ may.found k found))) may
 
 -- what the list has of the writes without a reply and without a condition, if gets found one number with the pair
 pub record HasNumbered (records : List Rec) (delete : Option ℕ) (k : ℕ) (numbers : List ℕ) : Type 0 where
@@ -241,7 +284,7 @@ pub lost_by_number : (records : List Rec) (q : Pair) (delete : Option ℕ) (k : 
 lost_by_number records q delete k numbers ordered first found has conflicts event b j s kind is may = by_kind kind is where
   given : (kind : Lost) → kind_of s ≡ Some kind → IsRepresented conflicts records event b j s q numbers
   given kind is =
-      let value = (taken_by_lost conflicts records event b j s q kind is may).found k found in
+      let value = may.found k found in
       let key : key_given s ≡ Some k = ap (λ o. key_of_kind o (value_of s.op)) is ∙ value in
       itself conflicts records event b j s q numbers (has.numbered j s may.at key) may
 
@@ -265,7 +308,7 @@ pub lost_by_first : (records : List Rec) (q : Pair) (delete index create : Optio
 lost_by_first records q delete index create numbers ordered first_delete first_index first_create found has conflicts event b j s kind is may = by_kind kind is found where
   several : (kind : Lost) → kind_of s ≡ Some kind → (k : ℕ) → value_of s.op ≡ Some k → ((n : ℕ) → ¬ ((k : ℕ) → IsFoundWith records q k → k ≡ n)) → ⊥
   several kind is n value apart =
-      apart n (λ k one. same_some k n (sym ((taken_by_lost conflicts records event b j s q kind is may).found k one) ∙ value))
+      apart n (λ k one. same_some k n (sym (may.found k one) ∙ value))
 
   by_kind : (kind : Lost) → kind_of s ≡ Some kind → IsNotOne records q → IsRepresented conflicts records event b j s q numbers
   by_kind lost.Delete is f = deletes_in conflicts records event b j s q numbers delete ordered first_delete has.deletes is may
@@ -301,16 +344,24 @@ not_one records q f found (inr is) = inr (subst (AreNumbersFound records q) is f
 
 -- ---- all candidates
 
--- what a list of candidates has
+-- where a reply shows which call took the pair, that call is the only one that may be performed with it
+pub are_shown : (conflicts : Conflicts) (records : List Rec) (event : ℕ) (b : Branch) (q : Pair) (numbers : List ℕ) → IsReportedOf records q
+    → ((i : ℕ) (r : Rec) → slice_get records i ≡ Some r → key_shown records r ≡ Some (version_of records q) → IsNumberOf numbers i)
+    → AreCandidates conflicts records event b q numbers
+are_shown conflicts records event b q numbers reported shown j s may = by_reply may.takes where
+  by_reply : (pair_of s.heard ≡ Some q) ⊎ MayHaveTaken conflicts records s q → IsRepresented conflicts records event b j s q numbers
+  by_reply (inl shows) = itself conflicts records event b j s q numbers (shown j s may.at (ap (option_map (version_of records)) shows)) may
+  by_reply (inr taken) = absurd (taken.unreported reported)
+
+-- what a list of candidates has where none does
 pub record HasAll (conflicts : Conflicts) (records : List Rec) (event : ℕ) (b : Branch) (q : Pair) (numbers : List ℕ) : Type 0 where
-  pub shown : (i : ℕ) (r : Rec) → slice_get records i ≡ Some r → key_shown records r ≡ Some (version_of records q) → IsNumberOf numbers i
   pub asked : (i : ℕ) (r : Rec) → slice_get records i ≡ Some r → key_asked records r ≡ Some (position records b.least) → IsNumberOf numbers i
   pub lost : AreLostIn records q numbers
   pub open_ones : AreOpen conflicts records event numbers
 
-pub are_candidates : (conflicts : Conflicts) (records : List Rec) (event : ℕ) (b : Branch) (q : Pair) (numbers : List ℕ) → HasAll conflicts records event b q numbers
-    → AreCandidates conflicts records event b q numbers
-are_candidates conflicts records event b q numbers has j s may = by_reply may.takes where
+pub are_candidates : (conflicts : Conflicts) (records : List Rec) (event : ℕ) (b : Branch) (q : Pair) (numbers : List ℕ) → (¬ IsReportedOf records q)
+    → HasAll conflicts records event b q numbers → AreCandidates conflicts records event b q numbers
+are_candidates conflicts records event b q numbers unreported has j s may = by_reply may.takes where
   by_condition : s.heard ≡ None → (o : Option Pair) → condition_of s.op ≡ o → IsRepresented conflicts records event b j s q numbers
   by_condition none (Some c) asks =
       let met = may.condition c asks in
@@ -339,5 +390,5 @@ are_candidates conflicts records event b q numbers has j s may = by_reply may.ta
   by_silence (inr hides) = by_heard hides s.heard refl
 
   by_reply : (pair_of s.heard ≡ Some q) ⊎ MayHaveTaken conflicts records s q → IsRepresented conflicts records event b j s q numbers
-  by_reply (inl shows) = itself conflicts records event b j s q numbers (has.shown j s may.at (ap (option_map (version_of records)) shows)) may
+  by_reply (inl shows) = absurd (unreported (s, (j, may.at), shows))
   by_reply (inr taken) = by_silence taken.silent

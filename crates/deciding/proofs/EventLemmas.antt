@@ -1,13 +1,13 @@
 -- The walk from event to event.
-use Rattle.std.proofs.Common.{ℕ, zero, suc, ◌≡◌, ◌<◌, ◌≤◌, ◌+◌, ◌-◌, ◌⊎◌, ◌++◌, ◌==◌, inl, inr, List, [], ◌∷◌, length, refl, sym, ap, subst, ◌∙◌, arith, Bool, true, false, cond, true≢false, Some, slice_get}
-use Rattle.std.proofs.lemmas.Bool.{cases_lt, eqb-true}
+use Rattle.std.proofs.Common.{ℕ, zero, suc, ◌≡◌, ◌≢◌, ◌<◌, ◌≤◌, ◌+◌, ◌-◌, ◌⊎◌, ◌++◌, ◌==◌, ◌&&◌, inl, inr, nat_lt, List, [], ◌∷◌, length, refl, sym, ap, subst, ◌∙◌, arith, Bool, true, false, cond, true≢false, Some, slice_get}
+use Rattle.std.proofs.lemmas.Bool.{cases_lt, eqb-true, ltb-false}
 use Rattle.std.proofs.lemmas.Option.{slice_get_within}
 use Rattle.version_pair.proofs.ListLemmas.{get_front, get_last, none_is_not_some, same_some}
 use Rattle.doc_register.specs.declared.reply.Reply.{Reply}
 use Rattle.doc_register.specs.declared.state.Conflicts.{Conflicts}
 use Rattle.events.specs.declared.record.Rec.{Rec}
 use Rattle.deciding.specs.Branches.{Branch, Covers, IsBranchOf, never_changed, position}
-use Rattle.deciding.specs.Steps.{is_hidden, without}
+use Rattle.deciding.specs.Steps.{count_of, is_hidden, is_lost_delete, is_lost_make, is_made_before, without}
 use Rattle.write_chain.specs.AnsweredCalls.{AreAnsweredCalls, answer_of}
 use Rattle.write_chain.specs.declared.answers.AnsweredRec.{AnsweredRec}
 use Rattle.write_chain.proofs.AnsweredCallLemmas.{IsAnsweredBefore, answers_rise, entry_heard, heard_entry}
@@ -18,8 +18,11 @@ use Rattle.deciding.specs.declared.document.Document.{Document}
 use Rattle.deciding.specs.declared.walk.Walk.{Walk}
 use Rattle.deciding.specs.Records.{AreInOrder}
 use Rattle.deciding.specs.aids.Candidates.{AreOpen, IsDocument, IsNumberOf}
+use Rattle.deciding.specs.aids.Moments.{HasMade}
 use Rattle.deciding.specs.aids.TablesOf.{table_of}
+use Rattle.deciding.specs.declared.made.Made.{Made}
 use Rattle.deciding.specs.aids.Walks.{HasPassed, IsAnswerAt, IsPassedTo, IsWalkAt}
+use Rattle.deciding.proofs.LostCounts.{count_all, count_none, made_one, made_other, made_parts, made_within}
 use Rattle.deciding.proofs.StepLemmas.{covers_itself}
 
 -- ---- one event
@@ -131,6 +134,63 @@ open_without conflicts records event number call old new order answer before is 
   by_order (inl first) = subst (λ xs. IsNumberOf xs i) (sym is) (in_without old number i (before i r y reply there heard hides first (omega (arith, until))) other)
   by_order (inr not) = absurd (order.apart number i call r event answer.reply answer.at there answer.heard (omega (arith, not, within)))
 
+-- ---- writes without a reply and without a condition
+
+-- no call is made before the first event
+none_made : (is : Rec → Bool) (records : List Rec) (most : ℕ) → count_of (is_made_before is 0) records ≤ most
+none_made is records most =
+    let none = count_none (is_made_before is 0) records (λ i r at made. (let parts = made_parts is 0 r made in let less : r.call_at < 0 = parts.1 in omega (arith, less))) in
+    omega (arith, none)
+
+-- what was made after a reply was made before it
+pub made_at_reply : (records : List Rec) (event number : ℕ) (call : Rec) (made : Made) → AreInOrder records → IsAnswerAt records number call event → HasMade records event made
+    → HasMade records (suc event) made
+made_at_reply records event number call made order answer has = record {
+  deletes = (let few = made_within is_lost_delete (suc event) event records before in let most : count_of (is_made_before is_lost_delete event) records ≤ made.deletes = has.deletes in omega (arith, few, most));
+  makes = (let few = made_within is_lost_make (suc event) event records before in let most : count_of (is_made_before is_lost_make event) records ≤ made.makes = has.makes in omega (arith, few, most));
+} where
+  before : (i : ℕ) (r : Rec) → slice_get records i ≡ Some r → r.call_at < suc event → r.call_at < event
+  before i r there less = by_order (cases_lt r.call_at event) where
+    by_order : ((r.call_at < event) ⊎ (event ≤ r.call_at)) → r.call_at < event
+    by_order (inl first) = first
+    by_order (inr not) = absurd (order.apart number i call r event answer.reply answer.at there answer.heard (omega (arith, not, less)))
+
+-- the count after a call was made
+counted : (is : Rec → Bool) (records : List Rec) (event number : ℕ) (call : Rec) (old new : ℕ) → AreInOrder records → slice_get records number ≡ Some call → call.call_at ≡ event
+    → count_of (is_made_before is event) records ≤ old → new ≡ cond (is call && nat_lt old (length records)) (suc old) old → count_of (is_made_before is (suc event)) records ≤ new
+counted is records event number call old new order at called few same = by_kind (is call) refl where
+  before : (i : ℕ) (r : Rec) → slice_get records i ≡ Some r → i ≢ number → r.call_at < suc event → r.call_at < event
+  before i r there other less = by_order (cases_lt r.call_at event) where
+    by_order : ((r.call_at < event) ⊎ (event ≤ r.call_at)) → r.call_at < event
+    by_order (inl first) = first
+    by_order (inr not) = absurd (other (one_call records i number r call order there at (omega (arith, not, less, called))))
+
+  by_room : is call ≡ true → (b : Bool) → nat_lt old (length records) ≡ b → count_of (is_made_before is (suc event)) records ≤ new
+  by_room kind true room =
+      let more = made_one is (suc event) event records number before in
+      let next : new ≡ suc old = same ∙ (ap (λ b. cond (b && nat_lt old (length records)) (suc old) old) kind ∙ ap (λ b. cond b (suc old) old) room) in
+      omega (arith, more, few, next)
+  by_room kind false room =
+      let all = count_all (is_made_before is (suc event)) records in
+      let stays : new ≡ old = same ∙ (ap (λ b. cond (b && nat_lt old (length records)) (suc old) old) kind ∙ ap (λ b. cond b (suc old) old) room) in
+      let full : length records ≤ old = ltb-false old (length records) room in
+      omega (arith, all, stays, full)
+
+  by_kind : (b : Bool) → is call ≡ b → count_of (is_made_before is (suc event)) records ≤ new
+  by_kind true kind = by_room kind (nat_lt old (length records)) refl
+  by_kind false kind =
+      let none = made_other is (suc event) event records number call at kind before in
+      let stays : new ≡ old = same ∙ ap (λ b. cond (b && nat_lt old (length records)) (suc old) old) kind in
+      omega (arith, none, few, stays)
+
+pub made_at_call : (records : List Rec) (event number : ℕ) (call : Rec) (old new : Made) → AreInOrder records → slice_get records number ≡ Some call → call.call_at ≡ event → HasMade records event old
+    → new.deletes ≡ cond (is_lost_delete call && nat_lt old.deletes (length records)) (suc old.deletes) old.deletes
+    → new.makes ≡ cond (is_lost_make call && nat_lt old.makes (length records)) (suc old.makes) old.makes → HasMade records (suc event) new
+made_at_call records event number call old new order at called has deletes makes = record {
+  deletes = counted is_lost_delete records event number call old.deletes new.deletes order at called has.deletes deletes;
+  makes = counted is_lost_make records event number call old.makes new.makes order at called has.makes makes;
+}
+
 -- ---- calls up to an event
 
 -- between two events of the document the walk stays where it is
@@ -145,6 +205,10 @@ walk_stays d event until walk is within calls replies = record {
       (λ i r y reply at heard less. replies i r y reply at heard (subst (λ e. y < e) there less)));
   positioned = is.positioned;
   open_ones = λ i r y reply at heard hides called from. is.open_ones i r y reply at heard hides (calls i r at called) (omega (arith, within, from));
+  made = record {
+    deletes = (let few = made_within is_lost_delete until event d.records.now calls in let most : count_of (is_made_before is_lost_delete event) d.records.now ≤ walk.made.deletes = is.made.deletes in omega (arith, few, most));
+    makes = (let few = made_within is_lost_make until event d.records.now calls in let most : count_of (is_made_before is_lost_make event) d.records.now ≤ walk.made.makes = is.made.makes in omega (arith, few, most));
+  };
 } where
   there : event + (until - event) ≡ until
   there = omega (arith, within)
@@ -235,6 +299,7 @@ started d walk row is never place = record {
   table = (branch_of row, subst (λ rows. IsBranchOf (table_of rows) (branch_of row)) (sym is) (zero, refl), subst (Covers d.records.now (branch_of row)) never (covers_itself d.records.now (branch_of row)));
   positioned = λ r has. by_row r has.0 (sym (ap (λ rows. slice_get rows has.0) is) ∙ has.1);
   open_ones = λ i r y reply at heard hides called from. absurd (omega (arith, called));
+  made = record { deletes = none_made is_lost_delete d.records.now walk.made.deletes; makes = none_made is_lost_make d.records.now walk.made.makes };
 } where
   positioned : IsPositioned d.records.now row
   positioned = place ∙ ap (position d.records.now) (sym (ap (λ (b : Branch). b.least) never))

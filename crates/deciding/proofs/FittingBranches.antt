@@ -1,5 +1,5 @@
 -- Branches that stand for what a document is at a cut of an order that explains it.
-use Rattle.std.proofs.Common.{ℕ, zero, suc, ◌≡◌, ◌≢◌, ◌<◌, ◌≤◌, ◌⊎◌, ◌==◌, inl, inr, List, [], ◌∷◌, refl, sym, ap, subst, ◌∙◌, arith, Bool, true, false, cond, true≢false, Option, Some, None, slice_get}
+use Rattle.std.proofs.Common.{ℕ, zero, suc, ◌≡◌, ◌≢◌, ◌<◌, ◌≤◌, ◌⊎◌, ◌==◌, ◌&&◌, inl, inr, List, [], ◌∷◌, length, nat_lt, refl, sym, ap, subst, ◌∙◌, arith, Bool, true, false, cond, true≢false, Option, Some, None, slice_get}
 use Rattle.std.proofs.lemmas.Bool.{or_left, or_right, or_cases, eqb-true, eqb-false}
 use Rattle.version_pair.specs.declared.pair.Pair.{Pair}
 use Rattle.version_pair.specs.PairOrder.{IsBelow}
@@ -13,12 +13,16 @@ use Rattle.events.specs.declared.record.Rec.{Rec}
 use Rattle.events.specs.Events.{is_same}
 use Rattle.events.specs.Order.{Placed, run_of}
 use Rattle.deciding.specs.Branches.{Branch, Covers, IsAtMost, is_in, never_changed, position}
-use Rattle.deciding.specs.Steps.{is_owed, without}
+use Rattle.deciding.specs.Steps.{count_of, is_lost_delete, is_lost_make, is_owed, without}
 use Rattle.deciding.proofs.DocumentSteps.{at_place}
-use Rattle.deciding.proofs.OrderedSteps.{Explained, IsEntry, IsRecordOf, doc_at, mapped_at, recs}
+use Rattle.deciding.proofs.OrderedSteps.{Explained, IsEntry, IsRecordOf, doc_at, mapped_at, place_in, recs}
 use Rattle.deciding.proofs.OrderedPositions.{position_at}
 
 -- ---- a branch at a cut
+
+-- a record of a kind that stands before the place
+abbrev pub is_kind_before : Explained → (Rec → Bool) → ℕ → Rec → Bool
+is_kind_before x is z r = is r && (nat_lt (place_in x.order r.no) z && nat_lt (place_in x.order r.no) (length x.order))
 
 -- The branch stands for what the document is at the place z of the order, before an event.
 pub record Fits (x : Explained) (event z : ℕ) (b : Branch) : Type 0 where
@@ -37,9 +41,11 @@ pub record Fits (x : Explained) (event z : ℕ) (b : Branch) : Type 0 where
   pub owes : (j : ℕ) (w : Rec) → is_in j b.owed ≡ true → slice_get (recs x) j ≡ Some w → is_owed w ≡ true
   pub owed : (j : ℕ) (w : Rec) (i : ℕ) (p : Placed) → is_in j b.owed ≡ true → slice_get (recs x) j ≡ Some w → IsRecordOf x i p w → z ≤ i
   pub spent : (j : ℕ) (w : Rec) (i : ℕ) (p : Placed) → is_in j b.spent ≡ true → slice_get (recs x) j ≡ Some w → IsRecordOf x i p w → i < z
+  pub deletes : b.deletes ≤ count_of (is_kind_before x is_lost_delete z) (recs x)
+  pub makes : b.makes ≤ count_of (is_kind_before x is_lost_make z) (recs x)
 
 -- what is at most the lower of two pairs is at most the greater
-at_most_on : (a b c : Option Pair) → IsAtMost a b → IsAtMost b c → IsAtMost a c
+pub at_most_on : (a b c : Option Pair) → IsAtMost a b → IsAtMost b c → IsAtMost a c
 at_most_on None b c one two = tt
 at_most_on (Some p) None c one two = absurd one
 at_most_on (Some p) (Some q) None one two = absurd two
@@ -69,6 +75,8 @@ covers_fits x event z a b covers fits = record {
   owes = λ j w is at. fits.owes j w (covers.owed j is) at;
   owed = λ j w i p is at of. fits.owed j w i p (covers.owed j is) at of;
   spent = λ j w i p is at of. fits.spent j w i p (covers.spent j is) at of;
+  deletes = (let few : a.deletes ≤ b.deletes = covers.deletes in let fit : b.deletes ≤ count_of (is_kind_before x is_lost_delete z) (recs x) = fits.deletes in omega (arith, few, fit));
+  makes = (let few : a.makes ≤ b.makes = covers.makes in let fit : b.makes ≤ count_of (is_kind_before x is_lost_make z) (recs x) = fits.makes in omega (arith, few, fit));
 }
 
 -- the document before its history
@@ -84,6 +92,8 @@ never_fits x = record {
   owes = λ j w is at. absurd (true≢false (sym is));
   owed = λ j w i p is at of. absurd (true≢false (sym is));
   spent = λ j w i p is at of. absurd (true≢false (sym is));
+  deletes = omega arith;
+  makes = omega arith;
 }
 
 -- ---- numbers in lists

@@ -1,9 +1,12 @@
 pub mod DocumentSteps
 mod Counts
+mod LostCounts
 pub mod OrderedSteps
+pub mod RecordOrder
 pub mod ReportedStates
 mod OrderedPositions
 mod FittingBranches
+mod LostCalls
 mod PerformedCalls
 mod ServedCalls
 pub mod WalkLaws

@@ -22,12 +22,13 @@ use Rattle.events.specs.Order.{Placed}
 use Rattle.deciding.specs.Reported.{IsReportedOf}
 use Rattle.deciding.specs.Positions.{taking_position, version_of}
 use Rattle.deciding.specs.Branches.{Branch, IsAbove, IsAtMost, is_in, position}
-use Rattle.deciding.specs.Steps.{AgreesWith, IsSilent, MayHaveTaken, MayPerform, is_hidden, is_same_bool, is_unconditional, moved_at, is_conflict, is_owed, performed, without}
+use Rattle.deciding.specs.Steps.{AgreesWith, IsSilent, MayHaveTaken, MayPerform, count_of, is_conflict, is_hidden, is_lost_delete, is_lost_make, is_owed, is_same_bool, is_unconditional, moved_at, performed, without}
 use Rattle.deciding.proofs.DocumentSteps.{exceeds_above, leaves_it, meets, met_pair}
 use Rattle.deciding.proofs.OrderedSteps.{Explained, IsRecordOf, doc_at, performs_at, place_in, reached_after, recs, same_index, same_place, same_record, same_reply, same_state, step_at}
 use Rattle.deciding.proofs.OrderedPositions.{position_at, position_below, position_known, reached_position, taken_below}
 use Rattle.deciding.proofs.ReportedStates.{did_delete, did_index, known_taken, state_at, state_shown, takes_reported, unreported_here}
-use Rattle.deciding.proofs.FittingBranches.{Fits, in_some, in_without}
+use Rattle.deciding.proofs.FittingBranches.{Fits, in_some, in_without, is_kind_before}
+use Rattle.deciding.proofs.LostCalls.{kinds_made, kinds_step}
 
 -- a call of the document takes a pair at a place
 pub record IsTakenAt (x : Explained) (z : ℕ) (q : Pair) : Type 0 where
@@ -96,10 +97,6 @@ may_have_taken x z q t silent none = record {
   silent = silent;
   unreported = unreported;
   gives = λ known. sym left.exists ∙ unreported_here x q (suc z) known unreported left.pair;
-  found = λ k f. (
-      let a = state_at x f.call (Here q k) f.listed (ap (state_shown f.call.op) f.heard) in
-      gives_number t.call.op q q k (sym (same_state x (suc z) a.0 (left.pair ∙ ap last_pair (sym a.1)) ∙ a.1) ∙ left.state)
-      );
 } where
   left : Leaves x z q t.call.op
   left = leaves_at x z q t
@@ -156,6 +153,10 @@ may_perform x event z b q t fits called = record {
   called = called;
   pending = λ y reply heard. fits.late z t.placed t.call y reply q t.own (omega arith) t.takes heard;
   takes = by_reply (shown_or_silent x z q t);
+  found = λ k f. (
+      let a = state_at x f.call (Here q k) f.listed (ap (state_shown f.call.op) f.heard) in
+      gives_number t.call.op q q k (sym (same_state x (suc z) a.0 (left.pair ∙ ap last_pair (sym a.1)) ∙ a.1) ∙ left.state)
+      );
   rises = above_least x z q b.least fits.least left.performs.rises;
   before = (let low : position_at x z ≤ taking_position (recs x) q = position_below x z q left.performs.rises in let same : position (recs x) b.least ≡ position_at x z = fits.place in omega arith);
   passed = λ v known below. (
@@ -173,6 +174,16 @@ may_perform x event z b q t fits called = record {
   missing = λ k is. fits.exists ∙ missing_before t.call.op (doc_at x z) k is left.performs.allowed;
   agrees = agrees x z q t b.exists fits.exists;
   unspent = λ hides. false_from_ne_true (is_in t.own.listed.0 b.spent) (λ is. absurd (let less : z < z = fits.spent t.own.listed.0 t.call z t.placed is t.own.listed.1 t.own in omega arith));
+  deletes = λ lost. (
+      let few : b.deletes ≤ count_of (is_kind_before x is_lost_delete z) (recs x) = fits.deletes in
+      let more = kinds_made x event z b is_lost_delete t.placed t.call fits t.own lost called in
+      omega (arith, few, more)
+      );
+  makes = λ lost. (
+      let few : b.makes ≤ count_of (is_kind_before x is_lost_make z) (recs x) = fits.makes in
+      let more = kinds_made x event z b is_lost_make t.placed t.call fits t.own lost called in
+      omega (arith, few, more)
+      );
 } where
   left : Leaves x z q t.call.op
   left = leaves_at x z q t
@@ -211,6 +222,8 @@ performed_fits x event z b q t fits called = record {
       by_order j w i p at of (apart j w still.0 at still.1) (cases_lt z i) from
       );
   spent = λ j w i p among at of. by_spent j w i p at of (in_some (is_owed t.call) j own b.spent among);
+  deletes = kinds_step x is_lost_delete z t.placed t.call b.deletes t.own fits.deletes;
+  makes = kinds_step x is_lost_make z t.placed t.call b.makes t.own fits.makes;
 } where
   left : Leaves x z q t.call.op
   left = leaves_at x z q t

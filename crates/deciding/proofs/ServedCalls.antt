@@ -19,14 +19,15 @@ use Rattle.events.specs.Order.{Placed}
 use Rattle.deciding.specs.Reported.{IsKnown, pair_shown, known_pairs}
 use Rattle.deciding.specs.Positions.{version_of}
 use Rattle.deciding.specs.Branches.{Branch, IsAtMost, is_among, is_in, position}
-use Rattle.deciding.specs.Steps.{is_conflict, is_owed, is_unconditional}
+use Rattle.deciding.specs.Steps.{count_of, is_conflict, is_lost_delete, is_lost_make, is_owed, is_unconditional}
 use Rattle.deciding.specs.Tables.{has_pair, is_refused, is_served_with}
 use Rattle.deciding.proofs.Counts.{known_or_not, no_gap_is_version, same_version, shown_known}
 use Rattle.deciding.proofs.DocumentSteps.{exceeds_above, meets, met_pair, reached_pair}
 use Rattle.deciding.proofs.OrderedSteps.{Explained, IsAnswered, IsEntry, IsRecordOf, doc_at, place_in, reached_after, recs, same_reply, same_state, step_at}
 use Rattle.deciding.proofs.OrderedPositions.{among_known, position_at, position_grows, position_known, position_unknown, reached_position}
 use Rattle.deciding.proofs.ReportedStates.{found_has, reported_step}
-use Rattle.deciding.proofs.FittingBranches.{Fits, Stays}
+use Rattle.deciding.proofs.FittingBranches.{Fits, Stays, is_kind_before}
+use Rattle.deciding.proofs.LostCalls.{kinds_later}
 use Rattle.deciding.proofs.PerformedCalls.{IsTakenAt, always_performed, leaves_at}
 
 -- ---- a place at which the document stays
@@ -65,6 +66,8 @@ stays_fits x event z b stays fits called = record {
   owes = fits.owes;
   owed = λ j w i p among at of. by_owed j w i p among at of (cases_lt z i) (fits.owed j w i p among at of);
   spent = λ j w i p among at of. (let less : i < z = fits.spent j w i p among at of in omega arith);
+  deletes = (let fit : b.deletes ≤ count_of (is_kind_before x is_lost_delete z) (recs x) = fits.deletes in let more = kinds_later x is_lost_delete z in omega (arith, fit, more));
+  makes = (let fit : b.makes ≤ count_of (is_kind_before x is_lost_make z) (recs x) = fits.makes in let more = kinds_later x is_lost_make z in omega (arith, fit, more));
 } where
   by_early : (i : ℕ) (p : Placed) (w : Rec) → IsRecordOf x i p w → i < suc z → ((i < z) ⊎ (z ≤ i)) → w.call_at < event
   by_early i p w of before (inl first) = fits.early i p w of first

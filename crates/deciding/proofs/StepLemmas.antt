@@ -16,11 +16,12 @@ use Rattle.doc_register.specs.declared.reply.Reply.{Reply}
 use Rattle.doc_register.specs.declared.reply.Reply.TheVariants.{Indexed, Deleted, Found, Missing, Conflict}
 use Rattle.doc_register.proofs.RunLemmas.{below_trans}
 use Rattle.events.specs.Heard.{pair_of}
+use Rattle.deciding.proofs.FittingBranches.{at_most_on}
 use Rattle.deciding.proofs.Counts.{count_same, known_or_not, pair_order, shown_known}
 use Rattle.deciding.proofs.OrderedPositions.{position_before, position_unknown}
 use Rattle.deciding.specs.Steps.{MayHaveTaken, MayPerform, moved_at, performed}
 use Rattle.deciding.specs.aids.Rows.{IsPositioned, branch_of}
-use Rattle.deciding.specs.aids.StepsOf.{ArePositioned, HasBranch, AreSteps, HasStepsWith, HasStepsWithSome, IsRowOf, IsTried, KeepsRows}
+use Rattle.deciding.specs.aids.StepsOf.{ArePositioned, AreSteps, HasRowFor, HasStepsWith, HasStepsWithSome, IsRowOf, IsTried, KeepsRows}
 
 -- a list keeps its own rows
 pub same_rows : (records : List Rec) (rows : List Row) → KeepsRows records rows rows
@@ -43,28 +44,28 @@ more_rows records old new row is placed = record {
 pub last_row : (old new : List Row) (row : Row) → new ≡ old ++ row ∷ [] → IsRowOf new row
 last_row old new row is = (length old, ap (λ xs. slice_get xs (length old)) is ∙ get_last old row)
 
--- what is in a list of rows is in one that kept them
-pub branch_kept : (records : List Rec) (old new : List Row) (b : Branch) → KeepsRows records old new → HasBranch old b → HasBranch new b
-branch_kept records old new b keeps (row, has, is) = (row, keeps.rows row has, is)
+-- what a list of rows covers is covered by one that kept them
+pub branch_kept : (records : List Rec) (old new : List Row) (b : Branch) → KeepsRows records old new → HasRowFor records old b → HasRowFor records new b
+branch_kept records old new b keeps (row, has, covers) = (row, keeps.rows row has, covers)
 
 -- one more call was tried
 pub tried_more : (conflicts : Conflicts) (records : List Rec) (event : ℕ) (b : Branch) (q : Pair) (numbers : List ℕ) (i n : ℕ) (old new : List Row) → slice_get numbers i ≡ Some n
     → ((k m : ℕ) → k < i → slice_get numbers k ≡ Some m → IsTried conflicts records event b m q old) → KeepsRows records old new → IsTried conflicts records event b n q new
     → (k m : ℕ) → k < suc i → slice_get numbers k ≡ Some m → IsTried conflicts records event b m q new
 tried_more conflicts records event b q numbers i n old new at before keeps tried k m within is r may = by_order (cases_lt k i) where
-  by_order : ((k < i) ⊎ (i ≤ k)) → HasBranch new (performed records event b m r q)
+  by_order : ((k < i) ⊎ (i ≤ k)) → HasRowFor records new (performed records event b m r q)
   by_order (inl first) = branch_kept records old new (performed records event b m r q) keeps (before k m first is r may)
   by_order (inr not) =
       let here : i ≡ k = omega (arith, within, not) in
       let same : n ≡ m = same_some n m (sym at ∙ (ap (slice_get numbers) here ∙ is)) in
-      subst (λ o. HasBranch new (performed records event b o r q)) same (tried r (subst (λ o. MayPerform conflicts records event b o r q) (sym same) may))
+      subst (λ o. HasRowFor records new (performed records event b o r q)) same (tried r (subst (λ o. MayPerform conflicts records event b o r q) (sym same) may))
 
 -- where each candidate was tried, each call that may be performed has its step
 pub all_tried : (conflicts : Conflicts) (records : List Rec) (event : ℕ) (b : Branch) (q : Pair) (numbers : List ℕ) (rows : List Row) → AreCandidates conflicts records event b q numbers
     → ((k m : ℕ) → slice_get numbers k ≡ Some m → IsTried conflicts records event b m q rows) → HasStepsWith conflicts records event b q rows
 all_tried conflicts records event b q numbers rows candidates tried j s may =
     let r = candidates j s may in
-    subst (HasBranch rows) r.same (tried r.listed.0 r.number r.listed.1 r.call r.may)
+    subst (HasRowFor records rows) r.same (tried r.listed.0 r.number r.listed.1 r.call r.may)
 
 -- ---- the pairs that are tried
 
@@ -118,8 +119,8 @@ lower_free conflicts records event b j s q f may unknown free above lower = reco
       silent = taken.silent;
       unreported = λ (r, listed, is). free (reported_known records r f listed is);
       gives = λ known. absurd (free known);
-      found = λ k found. absurd (free (found_known records f k found));
     });
+    found = λ k found. absurd (free (found_known records f k found));
     rises = above;
     before = by_least b.least above;
     passed = λ v known below. may.passed v known (below_too v below lower);
@@ -127,6 +128,8 @@ lower_free conflicts records event b j s q f may unknown free above lower = reco
     missing = may.missing;
     agrees = may.agrees;
     unspent = may.unspent;
+    deletes = may.deletes;
+    makes = may.makes;
   };
   covers = record {
     place = same;
@@ -137,6 +140,8 @@ lower_free conflicts records event b j s q f may unknown free above lower = reco
         ap (λ n. moved_at (position records b.least == n) b.arrived_at event) (sym same) in omega (arith, one));
     owed = λ i is. is;
     spent = λ i is. is;
+    deletes = omega arith;
+    makes = omega arith;
   };
 } where
   taken : MayHaveTaken conflicts records s q
@@ -182,32 +187,48 @@ covers_itself records b = record {
   arrived = omega arith;
   owed = λ i is. is;
   spent = λ i is. is;
+  deletes = omega arith;
+  makes = omega arith;
 } where
   by_pair : (o : Option Pair) → IsAtMost o o
   by_pair None = tt
   by_pair (Some p) = inl refl
+
+-- what covers a branch covers what that branch covers
+pub covers_on : (records : List Rec) (a b c : Branch) → Covers records a b → Covers records b c → Covers records a c
+covers_on records a b c one two = record {
+  place = one.place ∙ two.place;
+  exists = one.exists ∙ two.exists;
+  least = at_most_on a.least b.least c.least one.least two.least;
+  flipped = (let first : b.flipped_at ≤ a.flipped_at = one.flipped in let second : c.flipped_at ≤ b.flipped_at = two.flipped in omega (arith, first, second));
+  arrived = (let first : b.arrived_at ≤ a.arrived_at = one.arrived in let second : c.arrived_at ≤ b.arrived_at = two.arrived in omega (arith, first, second));
+  owed = λ i is. two.owed i (one.owed i is);
+  spent = λ i is. two.spent i (one.spent i is);
+  deletes = (let first : a.deletes ≤ b.deletes = one.deletes in let second : b.deletes ≤ c.deletes = two.deletes in omega (arith, first, second));
+  makes = (let first : a.makes ≤ b.makes = one.makes in let second : b.makes ≤ c.makes = two.makes in omega (arith, first, second));
+}
 
 -- where the steps with the next known pair and with the least free one are in the list, all steps are covered
 pub all_steps : (conflicts : Conflicts) (records : List Rec) (event : ℕ) (b : Branch) (known free : Option Pair) (rows : List Row) → IsNextKnown records b.least known
     → IsFreeAbove records b.least free → HasStepsWithSome conflicts records event b known rows → HasStepsWithSome conflicts records event b free rows
     → AreSteps conflicts records event b rows
 all_steps conflicts records event b known free rows next least with_known with_free j s q may = by_case (known_or_not records q) where
-  covered : (f : Pair) → HasBranch rows (performed records event b j s f) → Covers records (performed records event b j s f) (performed records event b j s q)
-      → (row : Row) × IsRowOf rows row × Covers records (branch_of row) (performed records event b j s q)
-  covered f (row, has, is) covers = (row, has, subst (λ a. Covers records a (performed records event b j s q)) (sym is) covers)
+  covered : (f : Pair) → HasRowFor records rows (performed records event b j s f) → Covers records (performed records event b j s f) (performed records event b j s q)
+      → HasRowFor records rows (performed records event b j s q)
+  covered f (row, has, is) covers = (row, has, covers_on records (branch_of row) (performed records event b j s f) (performed records event b j s q) is covers)
 
   itself : Covers records (performed records event b j s q) (performed records event b j s q)
   itself = covers_itself records (performed records event b j s q)
 
   by_known : IsKnown records q → (o : Option Pair) → IsNextKnown records b.least o → HasStepsWithSome conflicts records event b o rows
-      → (row : Row) × IsRowOf rows row × Covers records (branch_of row) (performed records event b j s q)
+      → HasRowFor records rows (performed records event b j s q)
   by_known is None none steps = absurd (none q is may.rises)
   by_known is (Some v) (listed, above, first) steps =
       let same : v ≡ q = known_next conflicts records event b j s q v may is listed above first in
-      covered q (subst (λ p. HasBranch rows (performed records event b j s p)) same (steps j s (subst (MayPerform conflicts records event b j s) (sym same) may))) itself
+      covered q (subst (λ p. HasRowFor records rows (performed records event b j s p)) same (steps j s (subst (MayPerform conflicts records event b j s) (sym same) may))) itself
 
   by_free : (¬ IsKnown records q) → (o : Option Pair) → IsFreeAbove records b.least o → HasStepsWithSome conflicts records event b o rows
-      → (row : Row) × IsRowOf rows row × Covers records (branch_of row) (performed records event b j s q)
+      → HasRowFor records rows (performed records event b j s q)
   by_free unknown None none steps =
       let v = none q may.rises unknown in
       absurd (not_passed records b.least v.0 v.2 (may.passed v.0 v.1 v.3))
@@ -215,7 +236,7 @@ all_steps conflicts records event b known free rows next least with_known with_f
       let l = lower_free conflicts records event b j s q f may unknown is_free above (first q may.rises) in
       covered f (steps j s l.may) l.covers
 
-  by_case : IsKnown records q ⊎ (¬ IsKnown records q) → (row : Row) × IsRowOf rows row × Covers records (branch_of row) (performed records event b j s q)
+  by_case : IsKnown records q ⊎ (¬ IsKnown records q) → HasRowFor records rows (performed records event b j s q)
   by_case (inl is) = by_known is known next with_known
   by_case (inr unknown) = by_free unknown free least with_free
 

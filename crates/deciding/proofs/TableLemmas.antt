@@ -1,21 +1,21 @@
 -- Tables of rows.
-use Rattle.std.proofs.Common.{ℕ, suc, ◌≡◌, ◌<◌, ◌≤◌, ◌⊎◌, ◌++◌, ◌&&◌, inl, inr, List, [], ◌∷◌, length, sym, ap, subst, ◌∙◌, arith, Bool, true, not, Some, slice_get}
-use Rattle.std.proofs.lemmas.Bool.{cases_lt, not_from_false}
-use Rattle.version_pair.proofs.ListLemmas.{get_front, get_last, get_snoc, get_within, mapped_from, same_some}
+use Rattle.std.proofs.Common.{ℕ, suc, ◌≡◌, ◌≢◌, ◌<◌, ◌≤◌, ◌⊎◌, ◌++◌, ◌&&◌, inl, inr, List, [], ◌∷◌, length, refl, set, sym, ap, subst, ◌∙◌, arith, Bool, true, false, not, cond, Some, slice_get}
+use Rattle.std.proofs.lemmas.Bool.{cases_eq, cases_lt, not_from_false}
+use Rattle.version_pair.proofs.ListLemmas.{get_front, get_last, get_snoc, get_within, mapped_from, same_some, slice_get-set_other, slice_get-set_same}
 use Rattle.doc_register.specs.declared.state.Conflicts.{Conflicts}
 use Rattle.events.specs.declared.record.Rec.{Rec}
 use Rattle.deciding.specs.declared.row.Row.{Row}
-use Rattle.deciding.specs.Branches.{Branch, IsBranchOf, IsCovered, position}
+use Rattle.deciding.specs.Branches.{Branch, Covers, IsBranchOf, IsCovered, is_in, position}
 use Rattle.deciding.specs.aids.Rows.{IsPositioned, branch_of}
 use Rattle.deciding.specs.aids.StepsOf.{ArePositioned, AreSteps, IsRowOf}
-use Rattle.deciding.specs.aids.TablesOf.{AddsRow, ArePlacedIn, AreStepsMet, IsClosed, HasPositions, IsPlacedIn, KeepsTable, KeepsTables, table_of}
+use Rattle.deciding.specs.aids.TablesOf.{AddsRow, ArePlacedIn, AreStepsMet, GrowsTable, HasPositions, IsClosed, IsPlacedIn, KeepsTable, KeepsTables, PushesRow, table_of}
 use Rattle.deciding.specs.declared.tables.ReplyTables.{ReplyTables}
-use Rattle.deciding.specs.Steps.{MayPerform, performed}
+use Rattle.deciding.specs.Steps.{MayPerform, is_owed, performed}
 use Rattle.deciding.specs.Tables.{AreLeftAtCall, AreLeftAtReply, IsMet, IsPlaced, is_past, is_served, may_come_later, owing, settled}
 use Rattle.deciding.specs.aids.Walks.{AreSettledIn, IsOwingIn}
 use Rattle.std.proofs.lemmas.Option.{slice_get_within}
 use Rattle.deciding.proofs.OrderedSteps.{mapped_at}
-use Rattle.deciding.proofs.StepLemmas.{covers_itself, none_positioned}
+use Rattle.deciding.proofs.StepLemmas.{covers_itself, covers_on, none_positioned}
 
 -- the branch of a row is in the table
 pub in_table : (rows : List Row) (row : Row) → IsRowOf rows row → IsBranchOf (table_of rows) (branch_of row)
@@ -27,15 +27,31 @@ row_of_branch rows b (i, at) = let m = mapped_from branch_of rows i b at in (m.0
 
 -- a table keeps its own rows
 pub same_table : (records : List Rec) (rows : List Row) → ArePositioned records rows → KeepsTable records rows rows
-same_table records rows placed = record { rows = λ i row at. at; positioned = placed }
+same_table records rows placed = record { covered = λ b is. is; positioned = placed }
 
-pub table_kept_on : (records : List Rec) (a b c : List Row) → KeepsTable records a b → KeepsTable records b c → KeepsTable records a c
-table_kept_on records a b c one two = record { rows = λ i row at. two.rows i row (one.rows i row at); positioned = two.positioned }
+table_kept_on : (records : List Rec) (a b c : List Row) → KeepsTable records a b → KeepsTable records b c → KeepsTable records a c
+table_kept_on records a b c one two = record { covered = λ x is. two.covered x (one.covered x is); positioned = two.positioned }
 
--- with one more row it keeps them
-pub pushed_row : (records : List Rec) (old new : List Row) (row : Row) → new ≡ old ++ row ∷ [] → ArePositioned records old → IsPositioned records row → AddsRow records row old new
+grown_on : (records : List Rec) (a b c : List Row) → GrowsTable records a b → GrowsTable records b c → GrowsTable records a c
+grown_on records a b c one two = record { rows = λ i row at. two.rows i row (one.rows i row at); positioned = two.positioned }
+
+-- what a table covers is covered by one that has its rows
+grown_covers : (records : List Rec) (old new : List Row) (b : Branch) → GrowsTable records old new → IsCovered records (table_of old) b → IsCovered records (table_of new) b
+grown_covers records old new b grows (a, has, covers) =
+    let row = row_of_branch old a has in
+    (a, subst (IsBranchOf (table_of new)) row.2 (in_table new row.0 (row.1.0, grows.rows row.1.0 row.0 row.1.1)), covers)
+
+-- so it is kept
+pub pushed_adds : (records : List Rec) (row : Row) (old new : List Row) → PushesRow records row old new → AddsRow records row old new
+pushed_adds records row old new pushes = record {
+  keeps = record { covered = λ b is. grown_covers records old new b pushes.grows is; positioned = pushes.grows.positioned };
+  covers = pushes.covers;
+}
+
+-- with one more row it has its rows
+pub pushed_row : (records : List Rec) (old new : List Row) (row : Row) → new ≡ old ++ row ∷ [] → ArePositioned records old → IsPositioned records row → PushesRow records row old new
 pushed_row records old new row is all placed = record {
-  keeps = record {
+  grows = record {
     rows = λ i r at. ap (λ xs. slice_get xs i) is ∙ get_front old (row ∷ []) i r at;
     positioned = λ r has. by_place r (get_snoc old row r has.0 (sym (ap (λ xs. slice_get xs has.0) is) ∙ has.1));
   };
@@ -45,22 +61,49 @@ pushed_row records old new row is all placed = record {
   by_place r {i} (inl at) = all r (i, at)
   by_place r (inr (here, same)) = subst (IsPositioned records) same placed
 
--- what a table covers is covered by one that kept its rows
+-- it has its rows if a row of it covers the new one
+pub row_covered : (records : List Rec) (rows : List Row) (row : Row) → ArePositioned records rows → IsCovered records (table_of rows) (branch_of row) → PushesRow records row rows rows
+row_covered records rows row all covers = record { grows = record { rows = λ i r at. at; positioned = all }; covers = covers }
+
+-- in place of one that it covers
+pub replaced_row : (records : List Rec) (rows : List Row) (at : ℕ) (old row : Row) → slice_get rows at ≡ Some old → ArePositioned records rows → IsPositioned records row
+    → Covers records (branch_of row) (branch_of old) → AddsRow records row rows (set rows at row)
+replaced_row records rows at old row here all placed better = record {
+  keeps = record { covered = λ b is. kept b is; positioned = λ r has. by_place r has.0 has.1 (cases_eq has.0 at) };
+  covers = new_covers (branch_of row) (covers_itself records (branch_of row));
+} where
+  inside : at < length rows
+  inside = slice_get_within rows at old here
+
+  new_covers : (b : Branch) → Covers records (branch_of row) b → IsCovered records (table_of (set rows at row)) b
+  new_covers b covers = (branch_of row, in_table (set rows at row) row (at, slice_get-set_same rows at row inside), covers)
+
+  kept : (b : Branch) → IsCovered records (table_of rows) b → IsCovered records (table_of (set rows at row)) b
+  kept b (a, has, covers) = by_row (row_of_branch rows a has) where
+    by_row : (r : Row) × IsRowOf rows r × (branch_of r ≡ a) → IsCovered records (table_of (set rows at row)) b
+    by_row (r, (i, is), same) = by_index (cases_eq i at) where
+      by_index : (i ≡ at) ⊎ (i ≢ at) → IsCovered records (table_of (set rows at row)) b
+      by_index (inl one) =
+          let r_old : r ≡ old = same_some r old (sym is ∙ (ap (slice_get rows) one ∙ here)) in
+          let is_a : branch_of old ≡ a = ap branch_of (sym r_old) ∙ same in
+          new_covers b (covers_on records (branch_of row) (branch_of old) b better (subst (λ x. Covers records x b) (sym is_a) covers))
+      by_index (inr other) = (a, subst (IsBranchOf (table_of (set rows at row))) same (in_table (set rows at row) r (i, slice_get-set_other rows at i row other ∙ is)), covers)
+
+  by_place : (r : Row) (i : ℕ) → slice_get (set rows at row) i ≡ Some r → (i ≡ at) ⊎ (i ≢ at) → IsPositioned records r
+  by_place r i is (inl one) = subst (IsPositioned records) (same_some row r (sym (slice_get-set_same rows at row inside) ∙ (ap (slice_get (set rows at row)) (sym one) ∙ is))) placed
+  by_place r i is (inr other) = all r (i, sym (slice_get-set_other rows at i row other) ∙ is)
+
+-- what a table covers is covered by one that keeps it
 pub covered_kept : (records : List Rec) (old new : List Row) (b : Branch) → KeepsTable records old new → IsCovered records (table_of old) b → IsCovered records (table_of new) b
-covered_kept records old new b keeps (a, has, covers) =
-    let row = row_of_branch old a has in
-    (a, subst (IsBranchOf (table_of new)) row.2 (in_table new row.0 (row.1.0, keeps.rows row.1.0 row.0 row.1.1)), covers)
+covered_kept records old new b keeps is = keeps.covered b is
 
 -- ---- the tables at a reply
 
 pub tables_kept_on : (records : List Rec) (a b c : ReplyTables) → KeepsTables records a b → KeepsTables records b c → KeepsTables records a c
 tables_kept_on records a b c one two = record {
   served = table_kept_on records a.served.items b.served.items c.served.items one.served two.served;
-  waiting = table_kept_on records a.waiting.items b.waiting.items c.waiting.items one.waiting two.waiting;
+  waiting = grown_on records a.waiting.items b.waiting.items c.waiting.items one.waiting two.waiting;
 }
-
-pub same_tables : (records : List Rec) (tables : ReplyTables) → HasPositions records tables → KeepsTables records tables tables
-same_tables records tables has = record { served = same_table records tables.served.items has.served; waiting = same_table records tables.waiting.items has.waiting }
 
 pub positions_kept : (records : List Rec) (old new : ReplyTables) → KeepsTables records old new → HasPositions records new
 positions_kept records old new keeps = record { served = keeps.served.positioned; waiting = keeps.waiting.positioned }
@@ -80,7 +123,7 @@ pub placed_kept : (conflicts : Conflicts) (records : List Rec) (i : ℕ) (r : Re
     → IsPlacedIn conflicts records i r old row → IsPlacedIn conflicts records i r new row
 placed_kept conflicts records i r row old new keeps placed = record {
   serves = λ yes. covered_kept records old.served.items new.served.items (branch_of row) keeps.served (placed.serves yes);
-  waits = λ no. covered_kept records old.waiting.items new.waiting.items (branch_of row) keeps.waiting (placed.waits no);
+  waits = λ no. grown_covers records old.waiting.items new.waiting.items (branch_of row) keeps.waiting (placed.waits no);
 }
 
 -- ---- all rows of a list
@@ -107,7 +150,7 @@ met_kept conflicts records i r b old new keeps (a, covers, placed) = (
   covers,
   record {
     serves = λ yes. covered_kept records old.served.items new.served.items a keeps.served (placed.serves yes);
-    waits = λ no. covered_kept records old.waiting.items new.waiting.items a keeps.waiting (placed.waits no);
+    waits = λ no. grown_covers records old.waiting.items new.waiting.items a keeps.waiting (placed.waits no);
   },
 )
 
@@ -176,6 +219,24 @@ left_at_call records number call rows next all b has past =
     let row = row_of_branch rows b has in
     subst (λ a. IsCovered records (table_of next) (owing number call a)) row.2
     (all row.1.0 row.0 row.1.1 (ap (λ (a : Branch). is_past records (position records a.least) call.heard) row.2 ∙ past))
+
+-- a call that isn't owed leaves all rows as they are
+pub left_as_it_is : (records : List Rec) (number : ℕ) (call : Rec) (table : List Branch) → is_owed call ≡ false → AreLeftAtCall records number call table table
+left_as_it_is records number call table unowed b has past = (
+  b,
+  has,
+  record {
+    place = refl;
+    exists = refl;
+    least = (covers_itself records b).least;
+    flipped = (covers_itself records b).flipped;
+    arrived = (covers_itself records b).arrived;
+    owed = λ i is. subst (λ c. is_in i (cond c (number ∷ b.owed) b.owed) ≡ true) (sym unowed) is;
+    spent = λ i is. is;
+    deletes = omega arith;
+    makes = omega arith;
+  },
+)
 
 -- what is left behind a reply, from the tables at it
 pub left_at_reply : (conflicts : Conflicts) (records : List Rec) (event number : ℕ) (call : Rec) (front next : List Row) (tables : ReplyTables) → ArePlacedIn conflicts records number call tables front

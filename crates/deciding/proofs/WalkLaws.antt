@@ -86,6 +86,8 @@ settled_fits x index c event reply s z b fits over = record {
   owes = λ j w among at. fits.owes j w (in_without j index b.owed among).0 at;
   owed = λ j w i p among at of. fits.owed j w i p (in_without j index b.owed among).0 at of;
   spent = λ j w i p among at of. fits.spent j w i p (in_without j index b.spent among).0 at of;
+  deletes = fits.deletes;
+  makes = fits.makes;
 } where
   by_order : (i : ℕ) (p : Placed) (w : Rec) (y : ℕ) (answer : Answer) (q : Pair) → IsRecordOf x i p w → z ≤ i → pair_taken p.entry.reply p.entry.hidden ≡ Some q
       → w.heard ≡ Some (y, answer) → ((event < y) ⊎ (y ≤ event)) → event ≤ y → suc event ≤ y
@@ -312,6 +314,8 @@ quiet_fits x event z b quiet fits = record {
   owes = fits.owes;
   owed = fits.owed;
   spent = fits.spent;
+  deletes = fits.deletes;
+  makes = fits.makes;
 } where
   by_order : (i : ℕ) (w : Rec) (y : ℕ) (reply : Answer) → slice_get (recs x) i ≡ Some w → w.heard ≡ Some (y, reply) → ((event < y) ⊎ (y ≤ event)) → event ≤ y → suc event ≤ y
   by_order i w y reply at heard (inl later) from = omega (arith, later)
@@ -333,6 +337,8 @@ owing_fits x index c event z b at called before fits = record {
   owes = λ j w among there. by_owes j w there (in_some (is_owed c) j index b.owed among);
   owed = λ j w i p among there of. by_owed j w i p there of (in_some (is_owed c) j index b.owed among);
   spent = fits.spent;
+  deletes = fits.deletes;
+  makes = fits.makes;
 } where
   by_owes : (j : ℕ) (w : Rec) → slice_get (recs x) j ≡ Some w → ((is_owed c ≡ true) × (index ≡ j)) ⊎ (is_in j b.owed ≡ true) → is_owed w ≡ true
   by_owes j w there (inr among) = fits.owes j w among there

@@ -58,6 +58,10 @@ pub record Branch : Type 0 where
   pub owed : List ℕ
   -- the indexes of conflicts that were performed
   pub spent : List ℕ
+  -- how many deletes without a reply and without a condition were performed
+  pub deletes : ℕ
+  -- how many indexes and creates without a reply and without a condition were performed
+  pub makes : ℕ
 
 -- The first branch is no worse than the second: what it stands for has the same position and existence, and the
 -- second forbids all that the first forbids.
@@ -77,6 +81,9 @@ pub record Covers (records : List Rec) (a b : Branch) : Type 0 where
   pub owed : (i : ℕ) → is_in i a.owed ≡ true → is_in i b.owed ≡ true
   -- no other conflict was performed
   pub spent : (i : ℕ) → is_in i a.spent ≡ true → is_in i b.spent ≡ true
+  -- no more writes without a reply and without a condition were performed
+  pub deletes : a.deletes ≤ b.deletes
+  pub makes : a.makes ≤ b.makes
 
 -- the branch is one of the table
 abbrev pub IsBranchOf : List Branch → Branch → Type 0
@@ -88,4 +95,4 @@ IsCovered records table b = (a : Branch) × IsBranchOf table a × Covers records
 
 -- the document before its history: it was never changed
 abbrev pub never_changed : Branch
-never_changed = record { least = None; exists = false; flipped_at = 0; arrived_at = 0; owed = []; spent = [] }
+never_changed = record { least = None; exists = false; flipped_at = 0; arrived_at = 0; owed = []; spent = []; deletes = 0; makes = 0 }

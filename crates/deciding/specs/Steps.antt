@@ -1,5 +1,5 @@
 -- Steps of a branch: a write is performed.
-use Rattle.std.specs.Prelude.{◌≡◌, ◌≢◌, ◌<◌, ◌≤◌, ◌==◌, ◌&&◌, ◌⊎◌, ⊤, ℕ, Bool, true, false, not, cond, List, [], ◌∷◌, Option, None, Some, IsSome, is_some, slice_get}
+use Rattle.std.specs.Prelude.{◌≡◌, ◌≢◌, ◌<◌, ◌≤◌, ◌==◌, ◌&&◌, ◌⊎◌, ⊤, ℕ, suc, nat_lt, Bool, true, false, not, cond, List, [], ◌∷◌, Option, None, Some, IsSome, is_some, slice_get}
 use Rattle.version_pair.specs.declared.pair.Pair.{Pair}
 use Rattle.version_pair.specs.PairOrder.{IsBelow}
 use Rattle.doc_register.specs.declared.op.Op.{Op}
@@ -48,10 +48,50 @@ is_unconditional (Delete None) = true
 is_unconditional (Delete (Some c)) = false
 is_unconditional (Create k) = false
 
+-- ---- writes without a reply and without a condition
+
+-- the call has no reply
+abbrev pub is_unanswered : Option (ℕ × Reply) → Bool
+is_unanswered None = true
+is_unanswered (Some heard) = false
+
+-- a delete without a condition
+abbrev pub is_plain_delete : Op → Bool
+is_plain_delete Get = false
+is_plain_delete (Index k c) = false
+is_plain_delete (Delete None) = true
+is_plain_delete (Delete (Some c)) = false
+is_plain_delete (Create k) = false
+
+-- an index without a condition, or a create
+abbrev pub is_plain_make : Op → Bool
+is_plain_make Get = false
+is_plain_make (Index k None) = true
+is_plain_make (Index k (Some c)) = false
+is_plain_make (Delete c) = false
+is_plain_make (Create k) = true
+
+-- a delete without a reply and without a condition
+abbrev pub is_lost_delete : Rec → Bool
+is_lost_delete r = is_unanswered r.heard && is_plain_delete r.op
+
+-- an index or a create without a reply and without a condition
+abbrev pub is_lost_make : Rec → Bool
+is_lost_make r = is_unanswered r.heard && is_plain_make r.op
+
+-- it is one of these, and was made before the event
+abbrev pub is_made_before : (Rec → Bool) → ℕ → Rec → Bool
+is_made_before is event r = is r && nat_lt r.call_at event
+
+-- how many of the records are of the kind
+abbrev pub count_of : (Rec → Bool) → List Rec → ℕ
+count_of is [] = 0
+count_of is (r ∷ rs) = cond (is r) (suc (count_of is rs)) (count_of is rs)
+
 -- ---- what is performed
 
 -- The call r, whose reply shows no pair, may have taken this one: if the pair is known, no reply says which call took
--- it, the call is an index or a create, and it gives each number that was found with the pair.
+-- it, and the call is an index or a create.
 -- Source: profile.
 pub record MayHaveTaken (conflicts : Conflicts) (records : List Rec) (r : Rec) (q : Pair) : Type 0 where
   -- its reply shows no pair
@@ -60,8 +100,6 @@ pub record MayHaveTaken (conflicts : Conflicts) (records : List Rec) (r : Rec) (
   pub unreported : ¬ IsReportedOf records q
   -- a known pair is that of an index or a create
   pub gives : IsKnown records q → IsSome (value_of r.op)
-  -- it gives the number that was found
-  pub found : (k : ℕ) → IsFoundWith records q k → value_of r.op ≡ Some k
 
 -- the state that the reply of a performed write shows is the branch's: it was created if the document was missing
 abbrev pub AgreesWith : Bool → Option (ℕ × Reply) → Type 0
@@ -85,6 +123,8 @@ pub record MayPerform (conflicts : Conflicts) (records : List Rec) (event : ℕ)
   pub pending : (at : ℕ) (reply : Reply) → r.heard ≡ Some (at, reply) → event ≤ at
   -- its reply shows the pair, or shows none
   pub takes : (pair_of r.heard ≡ Some q) ⊎ MayHaveTaken conflicts records r q
+  -- it gives each number that was found with the pair
+  pub found : (k : ℕ) → IsFoundWith records q k → value_of r.op ≡ Some k
   -- the pair is above that of the document's last change
   pub rises : IsAbove b.least q
   -- the document is at a position before the pair
@@ -100,6 +140,10 @@ pub record MayPerform (conflicts : Conflicts) (records : List Rec) (event : ℕ)
   pub agrees : AgreesWith b.exists r.heard
   -- a conflict was not performed before
   pub unspent : is_conflict r.heard ≡ true → is_in i b.spent ≡ false
+  -- of the deletes without a reply and without a condition fewer were performed than made
+  pub deletes : is_lost_delete r ≡ true → b.deletes < count_of (is_made_before is_lost_delete event) records
+  -- and of such indexes and creates
+  pub makes : is_lost_make r ≡ true → b.makes < count_of (is_made_before is_lost_make event) records
 
 -- the list without the number
 abbrev pub without : ℕ → List ℕ → List ℕ
@@ -129,4 +173,6 @@ performed records event b i r q = record {
   arrived_at = moved_at (position records b.least == position records (Some q)) b.arrived_at event;
   owed = cond (is_conflict r.heard) (without i b.owed) b.owed;
   spent = cond (is_owed r) (i ∷ b.spent) b.spent;
+  deletes = cond (is_lost_delete r) (suc b.deletes) b.deletes;
+  makes = cond (is_lost_make r) (suc b.makes) b.makes;
 }

@@ -34,6 +34,8 @@ owing i r b = record {
   arrived_at = b.arrived_at;
   owed = cond (is_owed r) (i ∷ b.owed) b.owed;
   spent = b.spent;
+  deletes = b.deletes;
+  makes = b.makes;
 }
 
 -- the i-th call, r, is made: each branch that is not past what it will find is in the next table
@@ -97,7 +99,7 @@ pub record IsPlaced (conflicts : Conflicts) (records : List Rec) (i : ℕ) (r : 
 abbrev pub IsMet : Conflicts → List Rec → ℕ → Rec → List Branch → List Branch → Branch → Type 0
 IsMet conflicts records i r served waiting b = (a : Branch) × Covers records a b × IsPlaced conflicts records i r served waiting a
 
--- the branch behind the reply to the i-th call
+-- the branch after the reply to the i-th call
 abbrev pub settled : ℕ → Branch → Branch
 settled i b = record {
   least = b.least;
@@ -106,6 +108,8 @@ settled i b = record {
   arrived_at = b.arrived_at;
   owed = without i b.owed;
   spent = without i b.spent;
+  deletes = b.deletes;
+  makes = b.makes;
 }
 
 -- The i-th call, r, is answered at the event: each branch makes steps until it served the call, and those that did are
@@ -145,7 +149,7 @@ IsTableAt conflicts records (suc event) table = (before : List Branch) × IsTabl
     × IsNextTable conflicts records event before table
 
 -- The document is ruled out at the call with the number no: there are tables along its events up to the reply to that
--- call, and the one behind that reply is empty.
+-- call, and the one after that reply is empty.
 -- Source: profile.
 pub record IsRuledOut (conflicts : Conflicts) (records : List Rec) (no : ℕ) : Type 0 where
   pub number : ℕ
@@ -158,5 +162,5 @@ pub record IsRuledOut (conflicts : Conflicts) (records : List Rec) (no : ℕ) : 
   pub reply : Reply
   -- it was answered
   pub heard : call.heard ≡ Some (replied, reply)
-  -- no branch is left behind its reply
+  -- no branch is left after its reply
   pub none : IsTableAt conflicts records (suc replied) []

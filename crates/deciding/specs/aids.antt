@@ -2,6 +2,7 @@ pub mod Above
 pub mod Candidates
 pub mod Groups
 pub mod KnownPairs
+pub mod Moments
 pub mod Performing
 pub mod Rows
 pub mod StepsOf

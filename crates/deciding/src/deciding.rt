@@ -3,6 +3,8 @@ ghost use Rattle.deciding.specs.Records.{AreInOrder};
 ghost use Rattle.deciding.specs.Tables.{IsRuledOut};
 ghost use Rattle.deciding.specs.aids.Candidates.{IsDocument};
 
+use crate::attempts::Attempts;
+use crate::budget::Budget;
 use crate::document::Document;
 use crate::versions::Versions;
 use crate::walk::{Walk, first_without_row};
@@ -13,19 +15,15 @@ use std::alloc::Global;
 use version_pair::NoMemory;
 use write_chain::answers_of;
 
-// Steps are made of so many rows for each record.
-const ROWS_PER_RECORD: usize = 64;
-
-// And of so many more.
-const MORE_ROWS: usize = 100_000;
-
 /// Returns the number of the call at which the document of the records is provably not linearizable (ruled out), if that
-/// is found: the first call, in response order, behind the reply to which there is nothing left that the document may be.
-/// The walk is given up once it has made the steps of more than 64 rows a record and 100,000; `None` then says nothing.
+/// is found: the first call, in response order, after whose reply there is nothing left that the document may be. The walk
+/// is given up once it has used up its budget; `None` says nothing.
 pub fn ruled_out_at(
     alloc: Global,
     records: &[Rec],
     conflicts: Conflicts,
+    attempts: Attempts,
+    budget: &mut Budget,
 ) -> Result<Option<u64>, NoMemory>
     // The records are in order, as those of a document of a history are.
     requires { AreInOrder records.now }
@@ -38,13 +36,12 @@ pub fn ruled_out_at(
     let document = Document {
         records,
         conflicts,
+        attempts,
         versions,
         writes,
     };
-    let limit = records
-        .len()
-        .saturating_mul(ROWS_PER_RECORD)
-        .saturating_add(MORE_ROWS);
-    let mut walk = Walk::start(alloc, limit)?;
-    first_without_row(&mut walk, &document, &answers)
+    let mut walk = Walk::start(alloc, budget.limit(records.len()))?;
+    let found = first_without_row(&mut walk, &document, &answers)?;
+    budget.keep(walk.left);
+    Ok(found)
 }

@@ -3,6 +3,7 @@ ghost use Rattle.std.specs.Option.{option_to_list};
 ghost use Rattle.deciding.specs.aids.Candidates.{AreCandidates, AreIn, AreLostIn, AreOpen, IsDocument, numbers_in};
 ghost use Rattle.deciding.specs.aids.Rows.{IsPositioned, branch_of};
 
+use crate::attempts::Attempts;
 use crate::groups::Entry;
 use crate::row::Row;
 use crate::version::FoundNumbers;
@@ -18,6 +19,7 @@ use version_pair::{NoMemory, Pair};
 pub struct Document<'a> {
     pub records: &'a [Rec],
     pub conflicts: Conflicts,
+    pub attempts: Attempts,
     pub versions: Versions,
     pub writes: Writes,
 }
@@ -59,8 +61,9 @@ impl Document<'_> {
         Ok(())
     }
 
-    /// Returns the numbers of calls among which each one that may be performed on the row with the pair is represented.
-    /// `open` has the conflicts that are made and not answered.
+    /// Returns the numbers of calls among which each one that may be performed on the row with the pair is represented:
+    /// those whose reply shows the pair, if there are any, and otherwise those whose reply shows none. `open` has the
+    /// conflicts that are made and not answered.
     pub fn candidates(
         &self,
         alloc: Global,
@@ -73,8 +76,11 @@ impl Document<'_> {
             → AreCandidates self.now.conflicts self.now.records.now event (branch_of row.now) pair numbers.items) }
     {
         let mut numbers = Vec::new(alloc);
-        let version = self.versions.known.version_of(pair) as u64;
-        push_group(&mut numbers, self.writes.shown.group(version))?;
+        if self.versions.is_reported(pair) {
+            let version = self.versions.known.version_of(pair) as u64;
+            push_group(&mut numbers, self.writes.shown.group(version))?;
+            return Ok(numbers);
+        }
         push_group(&mut numbers, self.writes.asked.group(row.position as u64))?;
         self.push_lost(&mut numbers, pair)?;
         numbers.extend_from_slice(open)?;

@@ -3,17 +3,22 @@
 //!
 //! ```text
 //! let records = history.records(doc)?;
+//! let mut budget = Budget::new();
 //! // Option<u64>: the call at which the document is ruled out.
-//! let call = ruled_out_at(alloc, &records, Conflicts::Plain)?;
+//! let call = ruled_out_at(alloc, &records, Conflicts::Plain, Attempts::Once, &mut budget)?;
 //! ```
 #![tactic(auto)]
 
 mod above;
+mod attempts;
+mod budget;
 mod deciding;
 mod document;
 mod groups;
 mod known;
 pub mod laws;
+mod made;
+mod moment;
 mod numbers;
 mod row;
 mod served;
@@ -25,4 +30,6 @@ mod versions;
 mod walk;
 mod writes;
 
+pub use attempts::Attempts;
+pub use budget::Budget;
 pub use deciding::ruled_out_at;

@@ -23,6 +23,10 @@ pub struct Row {
     pub owed: Vec<usize>,
     /// The numbers of the conflicts that were performed.
     pub spent: Vec<usize>,
+    /// How many deletes without a reply and without a condition were performed.
+    pub deletes: usize,
+    /// How many indexes and creates without a reply and without a condition were performed.
+    pub makes: usize,
 }
 
 /// Returns whether the first pair is the second or below it; `None` is below all.
@@ -51,11 +55,21 @@ impl Row {
         other.flipped_at <= self.flipped_at && other.arrived_at <= self.arrived_at
     }
 
-    // Whether each conflict that has to be performed in this row, or was, has to be or was in the other one.
+    // Whether no more deletes, indexes and creates without a reply and without a condition were performed.
+    fn is_as_sparing(&self, other: &Row) -> bool
+        ensures { IsTrue result → (self.now.deletes ≤ other.now.deletes) × (self.now.makes ≤ other.now.makes) }
+    {
+        self.deletes <= other.deletes && self.makes <= other.makes
+    }
+
+    // Whether each conflict that has to be performed in this row, or was, has to be or was in the other one, and no more
+    // other writes were performed.
     fn is_as_free(&self, other: &Row) -> bool
         ensures { IsTrue result → IsAsFree (branch_of self.now) (branch_of other.now) }
     {
-        are_in(&self.owed, &other.owed) && are_in(&self.spent, &other.spent)
+        are_in(&self.owed, &other.owed)
+            && are_in(&self.spent, &other.spent)
+            && self.is_as_sparing(other)
     }
 
     /// Returns whether the row is no worse than another one: whatever the other one allows, it allows too.

@@ -1,15 +1,20 @@
 //! Steps of a row: a write is performed.
 
-ghost use Rattle.std.specs.Prelude.{◌≡◌, ◌≤◌, ◌<◌, IfOk, IsTrue, List, Some as Just, ℕ, cond};
+ghost use Rattle.std.specs.Prelude.{◌≡◌, ◌≤◌, ◌<◌, IfOk, IsTrue, List, Some as Just, ℕ, cond, suc, true};
 ghost use Rattle.doc_register.specs.declared.reply.Reply.{Reply as Answer};
 ghost use Rattle.events.specs.declared.record.Rec.{Rec as Record};
-ghost use Rattle.deciding.specs.Steps.{AgreesWith, IsSilent, MayHaveTaken, MayPerform, is_conflict, moved_at, performed, without};
+ghost use Rattle.deciding.specs.Branches.{Covers};
+ghost use Rattle.deciding.specs.Steps.{AgreesWith, IsSilent, MayHaveTaken, MayPerform, is_conflict, is_lost_delete, is_lost_make, moved_at, performed, without};
 ghost use Rattle.deciding.specs.aids.KnownPairs.{AreKnown};
+ghost use Rattle.deciding.specs.aids.Moments.{HasMade};
 ghost use Rattle.deciding.specs.aids.Performing.{GivesFound, GivesKnown, IsConditionMet, IsMetBy, Takes};
 ghost use Rattle.deciding.specs.aids.Rows.{IsPositioned, branch_of};
 ghost use Rattle.deciding.specs.aids.VersionsOf.{AreOf};
 
+use crate::attempts::Attempts;
 use crate::known::Known;
+use crate::made::{is_lost_delete, is_lost_make};
+use crate::moment::Moment;
 use crate::numbers::{is_in, with_some, without};
 use crate::row::{Row, is_at_most};
 use crate::served::{is_conflict, is_hidden, is_owed};
@@ -58,7 +63,6 @@ fn may_have_taken(versions: &Versions, conflicts: Conflicts, call: Rec, pair: Pa
     is_silent(conflicts, call.heard)
         && !versions.is_reported(pair)
         && gives_known(&versions.known, call.op, pair)
-        && gives_found(versions, call, pair)
 }
 
 // Whether the reply to the call shows the pair, or may hide it.
@@ -142,24 +146,41 @@ fn suits(known: &Known, row: &Row, call: Rec) -> bool
     meets(known, row, call.op) && agrees(row.exists, call.heard)
 }
 
-/// Returns whether the write may be performed on the row before the event.
+// Whether fewer writes without a reply and without a condition were performed than made, if the call is one.
+fn is_left(row: &Row, moment: &Moment<'_>, call: Rec) -> bool
+    ensures { (is_lost_delete call ≡ true → row.now.deletes < moment.now.made.deletes) → (is_lost_make call ≡ true → row.now.makes < moment.now.made.makes)
+        → IsTrue result }
+{
+    if is_lost_delete(call) {
+        return row.deletes < moment.made.deletes;
+    }
+    !is_lost_make(call) || row.makes < moment.made.makes
+}
+
+/// Returns whether the write may be performed on the row before the event of the moment.
 pub fn may_perform(
     versions: &Versions,
     conflicts: Conflicts,
-    event: usize,
+    moment: &Moment<'_>,
     row: &Row,
     attempt: Attempt,
 ) -> bool
-    ensures { (records : List Record) → AreOf records versions.now → IsPositioned records row.now
-        → MayPerform conflicts records event (branch_of row.now) attempt.number attempt.call attempt.pair → IsTrue result }
+    ensures { (records : List Record) → AreOf records versions.now → IsPositioned records row.now → HasMade records moment.now.event moment.now.made
+        → MayPerform conflicts records moment.now.event (branch_of row.now) attempt.number attempt.call attempt.pair → IsTrue result }
 {
+    if !is_left(row, moment, attempt.call) {
+        return false;
+    }
     if is_conflict(attempt.call.heard) && is_in(attempt.number, &row.spent) {
         return false;
     }
-    if !is_open(event, attempt.call) {
+    if !is_open(moment.event, attempt.call) {
         return false;
     }
     if !takes(versions, conflicts, attempt.call, attempt.pair) {
+        return false;
+    }
+    if !gives_found(versions, attempt.call, attempt.pair) {
         return false;
     }
     suits(&versions.known, row, attempt.call)
@@ -183,6 +204,17 @@ fn owed_after(alloc: Global, row: &Row, attempt: Attempt) -> Result<Vec<usize>, 
     }
 }
 
+// The count with one more, if that is so and such writes are counted.
+fn added(count: usize, is: bool, attempts: Attempts) -> usize
+    ensures { result ≤ cond is (suc count) count }
+{
+    if is && attempts == Attempts::Once {
+        count.saturating_add(1)
+    } else {
+        count
+    }
+}
+
 /// Returns the row after the write was performed before the event.
 pub fn performed(
     alloc: Global,
@@ -190,9 +222,10 @@ pub fn performed(
     event: usize,
     row: &Row,
     attempt: Attempt,
+    attempts: Attempts,
 ) -> Result<Row, NoMemory>
     ensures { IfOk result (λ new. (records : List Record) → AreKnown records known.now.pairs.items → IsPositioned records row.now
-        → IsPositioned records new × (branch_of new ≡ performed records event (branch_of row.now) attempt.number attempt.call attempt.pair)) }
+        → IsPositioned records new × Covers records (branch_of new) (performed records event (branch_of row.now) attempt.number attempt.call attempt.pair)) }
 {
     let least = Some(attempt.pair);
     let position = known.position(least);
@@ -207,5 +240,7 @@ pub fn performed(
         arrived_at: moved_at(row.position == position, row.arrived_at, event),
         owed,
         spent,
+        deletes: added(row.deletes, is_lost_delete(attempt.call), attempts),
+        makes: added(row.makes, is_lost_make(attempt.call), attempts),
     })
 }

@@ -1,11 +1,13 @@
 //! All steps of a row.
 
 ghost use Rattle.std.specs.Prelude.{IfOk, OnOk};
-ghost use Rattle.deciding.specs.aids.Candidates.{AreOpen, IsDocument};
+ghost use Rattle.deciding.specs.aids.Candidates.{IsDocument};
+ghost use Rattle.deciding.specs.aids.Moments.{IsMoment};
 ghost use Rattle.deciding.specs.aids.Rows.{IsPositioned, branch_of};
 ghost use Rattle.deciding.specs.aids.StepsOf.{ArePositioned, AreSteps, HasStepsWith, HasStepsWithSome, IsTried, KeepsRows};
 
 use crate::document::Document;
+use crate::moment::Moment;
 use crate::row::Row;
 use crate::step::{Attempt, may_perform, performed};
 use std::alloc::Global;
@@ -16,22 +18,30 @@ impl Document<'_> {
     fn push_step(
         &self,
         rows: &mut Vec<Row>,
-        event: usize,
+        moment: &Moment<'_>,
         row: &Row,
         number: usize,
         pair: Pair,
     ) -> Result<(), NoMemory>
         ensures ok { OnOk result (IsDocument self.now → IsPositioned self.now.records.now row.now
+            → IsMoment self.now.conflicts self.now.records.now moment.now
             → KeepsRows self.now.records.now rows.old.items rows.new.items
-            × IsTried self.now.conflicts self.now.records.now event (branch_of row.now) number pair rows.new.items) }
+            × IsTried self.now.conflicts self.now.records.now moment.now.event (branch_of row.now) number pair rows.new.items) }
     {
         let Some(call) = self.records.get(number).copied() else {
             return Ok(());
         };
         let attempt = Attempt { number, call, pair };
-        if may_perform(&self.versions, self.conflicts, event, row, attempt) {
+        if may_perform(&self.versions, self.conflicts, moment, row, attempt) {
             let alloc = *rows.allocator();
-            let next = performed(alloc, &self.versions.known, event, row, attempt)?;
+            let next = performed(
+                alloc,
+                &self.versions.known,
+                moment.event,
+                row,
+                attempt,
+                self.attempts,
+            )?;
             rows.push(next)?;
         }
         Ok(())
@@ -41,19 +51,18 @@ impl Document<'_> {
     fn push_steps(
         &self,
         rows: &mut Vec<Row>,
-        event: usize,
+        moment: &Moment<'_>,
         row: &Row,
-        open: &[usize],
         pair: Pair,
     ) -> Result<(), NoMemory>
         ensures ok { OnOk result (IsDocument self.now → IsPositioned self.now.records.now row.now
-            → AreOpen self.now.conflicts self.now.records.now event open.now
+            → IsMoment self.now.conflicts self.now.records.now moment.now
             → KeepsRows self.now.records.now rows.old.items rows.new.items
-            × HasStepsWith self.now.conflicts self.now.records.now event (branch_of row.now) pair rows.new.items) }
+            × HasStepsWith self.now.conflicts self.now.records.now moment.now.event (branch_of row.now) pair rows.new.items) }
     {
-        let numbers = self.candidates(*rows.allocator(), row, pair, open)?;
+        let numbers = self.candidates(*rows.allocator(), row, pair, moment.pending)?;
         for i in 0..numbers.len() {
-            self.push_step(rows, event, row, numbers[i], pair)?;
+            self.push_step(rows, moment, row, numbers[i], pair)?;
         }
         Ok(())
     }
@@ -62,40 +71,32 @@ impl Document<'_> {
     fn push_some_steps(
         &self,
         rows: &mut Vec<Row>,
-        event: usize,
+        moment: &Moment<'_>,
         row: &Row,
-        open: &[usize],
         pair: Option<Pair>,
     ) -> Result<(), NoMemory>
         ensures ok { OnOk result (IsDocument self.now → IsPositioned self.now.records.now row.now
-            → AreOpen self.now.conflicts self.now.records.now event open.now
+            → IsMoment self.now.conflicts self.now.records.now moment.now
             → KeepsRows self.now.records.now rows.old.items rows.new.items
-            × HasStepsWithSome self.now.conflicts self.now.records.now event (branch_of row.now) pair rows.new.items) }
+            × HasStepsWithSome self.now.conflicts self.now.records.now moment.now.event (branch_of row.now) pair rows.new.items) }
     {
         if let Some(pair) = pair {
-            self.push_steps(rows, event, row, open, pair)?;
+            self.push_steps(rows, moment, row, pair)?;
         }
         Ok(())
     }
 
-    /// Returns the rows after each call that may be performed on the row before the event. `open` has the conflicts that
-    /// are made and not answered.
-    pub fn steps(
-        &self,
-        alloc: Global,
-        event: usize,
-        row: &Row,
-        open: &[usize],
-    ) -> Result<Vec<Row>, NoMemory>
+    /// Returns the rows after each call that may be performed on the row before the event of the moment.
+    pub fn steps(&self, alloc: Global, moment: &Moment<'_>, row: &Row) -> Result<Vec<Row>, NoMemory>
         ensures { IfOk result (λ rows. IsDocument self.now → IsPositioned self.now.records.now row.now
-            → AreOpen self.now.conflicts self.now.records.now event open.now
+            → IsMoment self.now.conflicts self.now.records.now moment.now
             → ArePositioned self.now.records.now rows.items
-            × AreSteps self.now.conflicts self.now.records.now event (branch_of row.now) rows.items) }
+            × AreSteps self.now.conflicts self.now.records.now moment.now.event (branch_of row.now) rows.items) }
     {
         let mut rows = Vec::new(alloc);
         let known = &self.versions.known;
-        self.push_some_steps(&mut rows, event, row, open, known.next_known(row.least))?;
-        self.push_some_steps(&mut rows, event, row, open, known.free_above(row.least))?;
+        self.push_some_steps(&mut rows, moment, row, known.next_known(row.least))?;
+        self.push_some_steps(&mut rows, moment, row, known.free_above(row.least))?;
         Ok(rows)
     }
 }

@@ -1,15 +1,18 @@
 //! Tables of rows, at the reply to a call.
 
-ghost use Rattle.std.specs.Prelude.{◌≡◌, IfOk, IsTrue, List, OnOk, [], true, not, ◌&&◌};
+ghost use Rattle.std.specs.Prelude.{◌≡◌, IfOk, IfSome, IsTrue, List, OnOk, Some as Just, [], true, not, slice_get, ◌&&◌};
 ghost use Rattle.events.specs.declared.record.Rec.{Rec as Record};
-ghost use Rattle.deciding.specs.Branches.{IsCovered};
+ghost use Rattle.deciding.specs.Branches.{Covers, IsCovered};
 ghost use Rattle.deciding.specs.Tables.{settled};
-ghost use Rattle.deciding.specs.aids.Candidates.{AreOpen, IsDocument};
+ghost use Rattle.deciding.specs.aids.Candidates.{IsDocument};
+ghost use Rattle.deciding.specs.aids.Moments.{IsMoment};
 ghost use Rattle.deciding.specs.aids.Rows.{IsPositioned, branch_of};
 ghost use Rattle.deciding.specs.aids.StepsOf.{ArePositioned};
-ghost use Rattle.deciding.specs.aids.TablesOf.{AddsRow, ArePlacedIn, HasPositions, IsClosed, IsPlacedIn, KeepsTables, table_of};
+ghost use Rattle.deciding.specs.aids.TablesOf.{AddsRow, ArePlacedIn, HasPositions, IsClosed, IsPlacedIn, KeepsTables, PushesRow, table_of};
+ghost use Rattle.deciding.specs.declared.row.Row.{Row as RowOf};
 
 use crate::document::Document;
+use crate::moment::Moment;
 use crate::numbers::{with_some, without};
 use crate::row::Row;
 use crate::served::{is_served, may_come_later};
@@ -30,13 +33,39 @@ fn is_covered(table: &[Row], row: &Row) -> bool
     false
 }
 
-/// Adds the row to the table, unless one of the table covers it.
+// The index of the first row of the table that the row covers.
+fn first_covered(table: &[Row], row: &Row) -> Option<usize>
+    ensures { IfSome result (λ i. (old : RowOf) × (slice_get table.now i ≡ Just old)
+        × ((records : List Record) → ArePositioned records table.now → IsPositioned records row.now
+        → Covers records (branch_of row.now) (branch_of old))) }
+{
+    for i in 0..table.len() {
+        if row.covers(&table[i]) {
+            return Some(i);
+        }
+    }
+    None
+}
+
+// Adds the row to the table, unless one of the table covers it. The others stay at their indexes.
+fn push_row(table: &mut Vec<Row>, row: Row) -> Result<(), NoMemory>
+    ensures ok { OnOk result ((records : List Record) → ArePositioned records table.old.items → IsPositioned records row
+        → PushesRow records row table.old.items table.new.items) }
+{
+    if !is_covered(table, &row) {
+        table.push(row)?;
+    }
+    Ok(())
+}
+
+/// Adds the row to the table, unless one of the table covers it, in place of the first that it covers, if there is one.
 pub fn add_row(table: &mut Vec<Row>, row: Row) -> Result<(), NoMemory>
     ensures ok { OnOk result ((records : List Record) → ArePositioned records table.old.items → IsPositioned records row
         → AddsRow records row table.old.items table.new.items) }
 {
-    if !is_covered(table, &row) {
-        table.push(row)?;
+    match first_covered(table, &row) {
+        Some(at) => table[at] = row,
+        None => push_row(table, row)?,
     }
     Ok(())
 }
@@ -55,10 +84,12 @@ impl Row {
             arrived_at: self.arrived_at,
             owed: with_some(alloc, false, 0, &self.owed)?,
             spent: with_some(alloc, false, 0, &self.spent)?,
+            deletes: self.deletes,
+            makes: self.makes,
         })
     }
 
-    /// Returns the row behind the reply to the call of this number.
+    /// Returns the row after the reply to the call of this number.
     pub fn settled(&self, alloc: Global, number: usize) -> Result<Row, NoMemory>
         ensures { IfOk result (λ row. (branch_of row ≡ settled number (branch_of self.now))
             × ((records : List Record) → IsPositioned records self.now → IsPositioned records row)) }
@@ -71,6 +102,8 @@ impl Row {
             arrived_at: self.arrived_at,
             owed: without(alloc, number, &self.owed)?,
             spent: without(alloc, number, &self.spent)?,
+            deletes: self.deletes,
+            makes: self.makes,
         })
     }
 }
@@ -121,7 +154,7 @@ impl ReplyTables {
             → KeepsTables records self.old self.new × (waits ≡ true → IsCovered records (table_of self.new.waiting.items) (branch_of row))) }
     {
         if waits {
-            add_row(&mut self.waiting, row)?;
+            push_row(&mut self.waiting, row)?;
         }
         Ok(())
     }
@@ -166,24 +199,24 @@ impl ReplyTables {
         Ok(())
     }
 
-    /// Places what is behind each step of each row that waits, of at most `limit` rows. Returns whether there were no more.
+    /// Places what comes after each step of each row that waits. Returns whether it did so of all, which are fewer than
+    /// `limit` then.
     pub fn close(
         &mut self,
         document: &Document<'_>,
-        event: usize,
+        moment: &Moment<'_>,
         number: usize,
         call: Rec,
-        open: &[usize],
         limit: usize,
     ) -> Result<bool, NoMemory>
         ensures { IfOk result (λ closed. IsDocument document.now → HasPositions document.now.records.now self.old
-            → AreOpen document.now.conflicts document.now.records.now event open.now
+            → IsMoment document.now.conflicts document.now.records.now moment.now
             → KeepsTables document.now.records.now self.old self.new
-            × (closed ≡ true → IsClosed document.now.conflicts document.now.records.now event number call self.new)) }
+            × (closed ≡ true → IsClosed document.now.conflicts document.now.records.now moment.now.event number call self.new)) }
     {
         for next in 0..limit {
             let rows = match self.waiting.get(next) {
-                Some(row) => document.steps(*self.served.allocator(), event, row, open)?,
+                Some(row) => document.steps(*self.served.allocator(), moment, row)?,
                 None => return Ok(true),
             };
             self.place_all(document, number, call, &rows)?;

@@ -1,9 +1,10 @@
 //! The walk along the events of a document, with a table of rows.
 
-ghost use Rattle.std.specs.Prelude.{◌≡◌, ◌<◌, All, IfOk, IfSome, List, OnOk, length, Some as Just, true, suc, ℕ, slice_get};
+ghost use Rattle.std.specs.Prelude.{◌≡◌, ◌<◌, All, IfOk, IfSome, IsTrue, List, OnOk, length, Some as Just, true, false, suc, ℕ, slice_get};
 ghost use Rattle.events.specs.declared.record.Rec.{Rec as Record};
 ghost use Rattle.deciding.specs.Branches.{IsCovered, never_changed};
 ghost use Rattle.write_chain.specs.AnsweredCalls.{AreAnsweredCalls};
+ghost use Rattle.deciding.specs.Steps.{is_owed};
 ghost use Rattle.deciding.specs.Tables.{AreLeftAtCall, IsRuledOut, owing};
 ghost use Rattle.deciding.specs.declared.document.Document.{Document as DocumentOf};
 ghost use Rattle.deciding.specs.aids.Candidates.{AreOpen, IsDocument};
@@ -15,16 +16,19 @@ ghost use Rattle.deciding.specs.aids.Walks.{AreSettledIn, HasPassed, IsAnswerAt,
 
 use crate::document::Document;
 use crate::known::Known;
+use crate::made::Made;
+use crate::moment::Moment;
 use crate::numbers::{with_some, without};
 use crate::row::Row;
 use crate::served::{is_hidden, is_owed, is_past};
 use crate::tables::{ReplyTables, add_row};
+use doc_register::Reply;
 use events::Rec;
 use std::alloc::Global;
 use version_pair::NoMemory;
 use write_chain::AnsweredRec;
 
-// The rows that served the call of this number, as they are behind its reply.
+// The rows that served the call of this number, as they are after its reply.
 fn settled_rows(alloc: Global, served: &[Row], number: usize) -> Result<Vec<Row>, NoMemory>
     ensures { IfOk result (λ rows. (records : List Record) → ArePositioned records served.now
         → ArePositioned records rows.items × AreSettledIn records number served.now rows.items) }
@@ -50,6 +54,8 @@ impl Row {
             arrived_at: 0,
             owed: Vec::new(alloc),
             spent: Vec::new(alloc),
+            deletes: 0,
+            makes: 0,
         }
     }
 
@@ -66,6 +72,8 @@ impl Row {
             arrived_at: self.arrived_at,
             owed: with_some(alloc, is_owed(call), number, &self.owed)?,
             spent: with_some(alloc, false, 0, &self.spent)?,
+            deletes: self.deletes,
+            makes: self.makes,
         })
     }
 }
@@ -86,6 +94,16 @@ fn push_owing(
         add_row(rows, owing)?;
     }
     Ok(())
+}
+
+// Whether a row stays as it is if the call is made.
+fn leaves_rows(call: Rec) -> bool
+    ensures { IsTrue result → is_owed call ≡ false }
+{
+    match call.heard {
+        Some((_, Reply::Found { .. })) => false,
+        Some(_) | None => !is_owed(call),
+    }
 }
 
 // The rows of the table that are not past what the call of this number finds, after it was made.
@@ -113,18 +131,34 @@ pub struct Walk {
     pub front: Vec<Row>,
     // The conflicts that may hide a write, made and not answered.
     open: Vec<usize>,
-    // The number of rows of which steps may yet be made.
-    left: usize,
+    // How many writes without a reply and without a condition were made.
+    made: Made,
+    /// The number of rows of which steps may yet be made.
+    pub left: usize,
 }
 
 impl Walk {
+    // Brings the rows to where they are after the call of this number was made.
+    fn move_front(&mut self, known: &Known, number: usize, call: Rec) -> Result<(), NoMemory>
+        ensures rows { OnOk result ((records : List Record) → AreKnown records known.now.pairs.items → ArePositioned records self.old.front.items
+            → ArePositioned records self.new.front.items
+            × AreLeftAtCall records number call (table_of self.old.front.items) (table_of self.new.front.items)) }
+        ensures kept { OnOk result ((self.new.open.items ≡ self.old.open.items) × (self.new.made ≡ self.old.made)) }
+    {
+        if !leaves_rows(call) {
+            let alloc = *self.front.allocator();
+            self.front = rows_owing(alloc, known, &self.front, number, call)?;
+        }
+        Ok(())
+    }
+
     // A call of the document is made: the one of this number.
     fn make(&mut self, document: &Document<'_>, number: usize, call: Rec) -> Result<(), NoMemory>
         ensures ok { OnOk result (IsDocument document.now → (event : ℕ) → slice_get document.now.records.now number ≡ Just call → call.call_at ≡ event
             → IsWalkAt document.now event self.old → IsWalkAt document.now (suc event) self.new) }
     {
-        let alloc = *self.front.allocator();
-        self.front = rows_owing(alloc, &document.versions.known, &self.front, number, call)?;
+        self.move_front(&document.versions.known, number, call)?;
+        self.made = self.made.with(call, document.records.len());
         if is_hidden(document.conflicts, call.heard) {
             self.open.push(number)?;
         }
@@ -146,7 +180,12 @@ impl Walk {
         let alloc = *self.front.allocator();
         let mut tables = ReplyTables::new(alloc);
         tables.place_all(document, number, call, &self.front)?;
-        let closed = tables.close(document, event, number, call, &self.open, self.left)?;
+        let moment = Moment {
+            event,
+            pending: self.open.as_slice(),
+            made: self.made,
+        };
+        let closed = tables.close(document, &moment, number, call, self.left)?;
         self.left = self.left.saturating_sub(tables.waiting.len());
         self.front = settled_rows(alloc, &tables.served, number)?;
         self.open = without(alloc, number, &self.open)?;
@@ -182,12 +221,16 @@ impl Walk {
         Ok(Walk {
             front,
             open: Vec::new(alloc),
+            made: Made {
+                deletes: 0,
+                makes: 0,
+            },
             left: limit,
         })
     }
 }
 
-/// Returns the number of the first call, in response order, behind the reply to which the walk has no row.
+/// Returns the number of the first call, in response order, after whose reply the walk has no row.
 pub fn first_without_row(
     walk: &mut Walk,
     document: &Document<'_>,

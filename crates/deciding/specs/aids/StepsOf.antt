@@ -16,20 +16,20 @@ IsRowOf rows row = (i : ℕ) × (slice_get rows i ≡ Some row)
 abbrev pub ArePositioned : List Rec → List Row → Type 0
 ArePositioned records rows = (row : Row) → IsRowOf rows row → IsPositioned records row
 
--- a row of the list has the branch
-abbrev pub HasBranch : List Row → Branch → Type 0
-HasBranch rows b = (row : Row) × IsRowOf rows row × (branch_of row ≡ b)
+-- a row of the list covers the branch
+abbrev pub HasRowFor : List Rec → List Row → Branch → Type 0
+HasRowFor records rows b = (row : Row) × IsRowOf rows row × Covers records (branch_of row) b
 
 -- the new list has the rows of the old one, and its rows are positioned if those are
 pub record KeepsRows (records : List Rec) (old new : List Row) : Type 0 where
   pub rows : (row : Row) → IsRowOf old row → IsRowOf new row
   pub positioned : ArePositioned records old → ArePositioned records new
 
--- if the call may be performed with the pair, the branch behind that is one of the list
+-- if the call may be performed with the pair, a row of the list covers the branch after that
 abbrev pub IsTried : Conflicts → List Rec → ℕ → Branch → ℕ → Pair → List Row → Type 0
-IsTried conflicts records event b number q rows = (r : Rec) → MayPerform conflicts records event b number r q → HasBranch rows (performed records event b number r q)
+IsTried conflicts records event b number q rows = (r : Rec) → MayPerform conflicts records event b number r q → HasRowFor records rows (performed records event b number r q)
 
--- each call that may be performed with the pair has the branch behind that in the list
+-- the branch after each call that may be performed with the pair is covered in the list
 abbrev pub HasStepsWith : Conflicts → List Rec → ℕ → Branch → Pair → List Row → Type 0
 HasStepsWith conflicts records event b q rows = (j : ℕ) → IsTried conflicts records event b j q rows
 
@@ -41,4 +41,4 @@ HasStepsWithSome conflicts records event b (Some q) rows = HasStepsWith conflict
 -- each step of the branch is covered by one of the list
 abbrev pub AreSteps : Conflicts → List Rec → ℕ → Branch → List Row → Type 0
 AreSteps conflicts records event b rows = (j : ℕ) (s : Rec) (q : Pair) → MayPerform conflicts records event b j s q
-    → (row : Row) × IsRowOf rows row × Covers records (branch_of row) (performed records event b j s q)
+    → HasRowFor records rows (performed records event b j s q)

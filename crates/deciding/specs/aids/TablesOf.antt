@@ -15,20 +15,30 @@ use Rattle.deciding.specs.aids.StepsOf.{ArePositioned}
 abbrev pub table_of : List Row → List Branch
 table_of rows = map branch_of rows
 
--- the new table has the rows of the old one at their indexes, and its rows are positioned
+-- the new table covers what the old one covers, and its rows are positioned
 pub record KeepsTable (records : List Rec) (old new : List Row) : Type 0 where
-  pub rows : (i : ℕ) (row : Row) → slice_get old i ≡ Some row → slice_get new i ≡ Some row
+  pub covered : (b : Branch) → IsCovered records (table_of old) b → IsCovered records (table_of new) b
   pub positioned : ArePositioned records new
 
--- and covers one more row
+-- and one more row
 pub record AddsRow (records : List Rec) (row : Row) (old new : List Row) : Type 0 where
   pub keeps : KeepsTable records old new
   pub covers : IsCovered records (table_of new) (branch_of row)
 
--- both tables are kept
+-- the new table has the rows of the old one at their indexes, and its rows are positioned
+pub record GrowsTable (records : List Rec) (old new : List Row) : Type 0 where
+  pub rows : (i : ℕ) (row : Row) → slice_get old i ≡ Some row → slice_get new i ≡ Some row
+  pub positioned : ArePositioned records new
+
+-- and covers one more row
+pub record PushesRow (records : List Rec) (row : Row) (old new : List Row) : Type 0 where
+  pub grows : GrowsTable records old new
+  pub covers : IsCovered records (table_of new) (branch_of row)
+
+-- both tables are kept, and what waits at its indexes
 pub record KeepsTables (records : List Rec) (old new : ReplyTables) : Type 0 where
   pub served : KeepsTable records old.served.items new.served.items
-  pub waiting : KeepsTable records old.waiting.items new.waiting.items
+  pub waiting : GrowsTable records old.waiting.items new.waiting.items
 
 -- the row is placed in the tables at the reply to the call
 abbrev pub IsPlacedIn : Conflicts → List Rec → ℕ → Rec → ReplyTables → Row → Type 0

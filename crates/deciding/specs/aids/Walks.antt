@@ -8,6 +8,7 @@ use Rattle.deciding.specs.declared.walk.Walk.{Walk}
 use Rattle.deciding.specs.Branches.{IsCovered, position}
 use Rattle.deciding.specs.Tables.{IsTableAt, is_past, owing, settled}
 use Rattle.deciding.specs.aids.Candidates.{AreOpen}
+use Rattle.deciding.specs.aids.Moments.{HasMade}
 use Rattle.deciding.specs.aids.Rows.{branch_of}
 use Rattle.deciding.specs.aids.StepsOf.{ArePositioned}
 use Rattle.deciding.specs.aids.TablesOf.{table_of}
@@ -31,6 +32,7 @@ pub record IsWalkAt (d : Document) (event : ℕ) (walk : Walk) : Type 0 where
   pub table : IsTableAt d.conflicts d.records.now event (table_of walk.front.items)
   pub positioned : ArePositioned d.records.now walk.front.items
   pub open_ones : AreOpen d.conflicts d.records.now event walk.open.items
+  pub made : HasMade d.records.now event walk.made
 
 -- the calls that are made before the event are those below this number
 abbrev pub HasPassed : List Rec → ℕ → ℕ → Type 0

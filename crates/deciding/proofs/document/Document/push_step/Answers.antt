@@ -1,6 +1,7 @@
 use Rattle.std.proofs.Common.{◌≡◌, ◌∙◌, ◌++◌, ◌∷◌, [], Some, slice_get, sym, ap, subst, true≢false}
 use Rattle.version_pair.proofs.ListLemmas.{same_some}
 use Rattle.events.specs.declared.record.Rec.{Rec}
+use Rattle.deciding.specs.Branches.{Covers}
 use Rattle.deciding.specs.Steps.{MayPerform, performed}
 use Rattle.deciding.specs.aids.Rows.{branch_of}
 use Rattle.deciding.proofs.ItemLemmas.{copied_get}
@@ -9,13 +10,13 @@ use Rattle.deciding.proofs.document.Document.push_step.Goals as goal
 
 pub returns-in_ok-push : goal.returns-in_ok-push
 returns-in_ok-push c = record {
-  ok = λ d placed. (
+  ok = λ d placed moment. (
       let next = c.in_ok-next.ensures records d.versions.known placed in (
         more_rows records c.args.rows.now.items c.push.new.self.items c.in_ok-next.next c.in_ok-push.ensures.items next.0,
         λ r may. (
           c.in_ok-next.next,
           last_row c.args.rows.now.items c.push.new.self.items c.in_ok-next.next c.in_ok-push.ensures.items,
-          next.1 ∙ ap (λ (call : Rec). performed records c.args.event (branch_of c.args.row.now) c.args.number call c.args.pair) (one r may.at),
+          subst (λ (call : Rec). Covers records (branch_of c.in_ok-next.next) (performed records c.args.moment.now.event (branch_of c.args.row.now) c.args.number call c.args.pair)) (one r may.at) next.1,
         ),
       )
       );
@@ -31,10 +32,10 @@ returns-in_ok-push c = record {
 
 pub returns-else-may_perform : goal.returns-else-may_perform
 returns-else-may_perform c = record {
-  ok = λ d placed. (
+  ok = λ d placed moment. (
     same_rows records c.args.rows.now.items,
-    λ r may. absurd (true≢false (sym (c.may_perform.ensures records d.versions placed
-        (subst (λ (call : Rec). MayPerform c.args.self.now.conflicts records c.args.event (branch_of c.args.row.now) c.args.number call c.args.pair) (sym (one r may.at)) may)) ∙ c.if-may_perform.false)),
+    λ r may. absurd (true≢false (sym (c.may_perform.ensures records d.versions placed moment.made
+        (subst (λ (call : Rec). MayPerform c.args.self.now.conflicts records c.args.moment.now.event (branch_of c.args.row.now) c.args.number call c.args.pair) (sym (one r may.at)) may)) ∙ c.if-may_perform.false)),
   );
 } where
   records : Rattle.std.proofs.Common.List Rec

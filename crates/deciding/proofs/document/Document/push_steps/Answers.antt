@@ -5,11 +5,11 @@ use Rattle.deciding.proofs.StepLemmas.{all_tried, kept_on, tried_more}
 use Rattle.deciding.proofs.document.Document.push_steps.Goals as goal
 
 pub loop-i-preserved : goal.loop-i-preserved
-loop-i-preserved c d placed =
-    let before = c.loop-i.invariant d placed in
-    let step = c.in_ok-push_step.ensures.ok d placed in (
+loop-i-preserved c d placed moment =
+    let before = c.loop-i.invariant d placed moment in
+    let step = c.in_ok-push_step.ensures.ok d placed moment in (
       kept_on c.args.self.now.records.now c.args.rows.now.items c.loop-i.rows.items c.push_step.new.rows.items before.0 step.0,
-      λ k m within at. tried_more c.args.self.now.conflicts c.args.self.now.records.now c.args.event (branch_of c.args.row.now) c.args.pair numbers c.loop-i.i c.index.result.now
+      λ k m within at. tried_more c.args.self.now.conflicts c.args.self.now.records.now c.args.moment.now.event (branch_of c.args.row.now) c.args.pair numbers c.loop-i.i c.index.result.now
           c.loop-i.rows.items c.push_step.new.rows.items here before.1 step.0 step.1 k m (omega (arith, within)) at,
     ) where
       numbers : List ℕ
@@ -23,11 +23,11 @@ loop-i-preserved c d placed =
 
 pub returns : goal.returns
 returns c = record {
-  ok = λ d placed made. (
-      let done = c.loop-i.invariant d placed in (
+  ok = λ d placed moment. (
+      let done = c.loop-i.invariant d placed moment in (
         done.0,
-        all_tried c.args.self.now.conflicts c.args.self.now.records.now c.args.event (branch_of c.args.row.now) c.args.pair numbers c.loop-i.rows.items
-            (c.in_ok-numbers.ensures d placed c.args.event made)
+        all_tried c.args.self.now.conflicts c.args.self.now.records.now c.args.moment.now.event (branch_of c.args.row.now) c.args.pair numbers c.loop-i.rows.items
+            (c.in_ok-numbers.ensures d placed c.args.moment.now.event moment.open_ones)
             (λ k m at. done.1 k m (let inside : k < length numbers = slice_get_within numbers k m at in omega (arith, inside, past)) at),
       )
       );
