@@ -1,0 +1,6 @@
+// A stub: what RecordingClient and the examples need of OpenSearch's class of this name, and no more.
+package org.opensearch;
+
+public interface OpenSearchWrapperException {
+    Throwable getCause();
+}

@@ -1,0 +1,8 @@
+// A stub: what RecordingClient and the examples need of OpenSearch's class of this name, and no more.
+package org.opensearch.core.action;
+
+public interface ActionListener<Response> {
+    void onResponse(Response response);
+
+    void onFailure(Exception fault);
+}

@@ -1,0 +1,8 @@
+// A stub: what RecordingClient and the examples need of OpenSearch's class of this name, and no more.
+package org.opensearch.index;
+
+public enum VersionType {
+    INTERNAL,
+    EXTERNAL,
+    EXTERNAL_GTE
+}
