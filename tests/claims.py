@@ -38,6 +38,7 @@ DOCUMENTS = [
     "examples/README.md",
     *STORES,
     "recording/README.md",
+    "recording/java/README.md",
     *sorted(f"docs/{it.name}" for it in (TOP / "docs").glob("*.md")),
 ]
 

@@ -20,6 +20,7 @@ import tempfile
 import time
 import unittest
 
+from documents import copied_checkout, is_as_wanted, parted, sessions
 from program import TOP
 from program_test import ProgramTest, run_tests
 from recordings import judged
@@ -350,6 +351,75 @@ class Clients(JavaTest):
         self.assertEqual(written, [source, 1, 1, source, 1])
         self.assertEqual(shown[:3], [source, 1, source])
         self.assertNotIn(shown[3], (1, source))
+
+
+RIGHT = (TOP / "examples" / "right.ndjson").read_text(encoding="utf-8")
+
+FAULTS = ("STALE_READS", "LOST_WRITES", "UNCHECKED_CONDITIONS", "NUMBERS_TWICE")
+"""What the map of the examples does wrong."""
+
+
+class Examples(JavaTest):
+    """A replicated map, whose faults are refuted and which is right without one."""
+
+    def check_demonstration(self, fault, wanted):
+        file = self.folder / fault
+        self.java("casbench.examples.Demonstration", file, fault)
+        self.assertEqual(judged(self.program, file).split()[0], wanted)
+
+    def check_on_map(self, fault, wanted):
+        said = self.java("OnMap", self.folder / f"{fault}-on-map", fault, program=self.program)
+        self.assertRegex(said, wanted)
+
+    def test_demonstration(self):
+        rows = [*((it, self.check_demonstration, it, "refuted") for it in FAULTS), ("right", self.check_demonstration, "NONE", "yes")]
+        self.run_subtests(lambda check, *words: check(*words), rows, workers=2)
+
+    def test_of_a_cluster(self):
+        """The example of OpenSearch's own test, whose clients lose answers, checked as OpenSearch is."""
+        rows = [(it, self.check_on_map, it, "^failed: casbench check .*: refuted\n") for it in FAULTS]
+        rows.append(("right", self.check_on_map, "NONE", "^passed\n$"))
+        self.run_subtests(lambda check, *words: check(*words), rows, workers=2)
+
+    def test_junit(self):
+        missing = [it.name for it in CONSOLE if not it.exists()]
+        if missing:
+            self.skipTest(f"Debian's package junit5 isn't here ({missing[0]}), so the example's test was not run by JUnit")
+        jars = os.pathsep.join([JavaTest.classes.name, *map(str, CONSOLE)])
+        test = next((JAVA / "examples").rglob("ReplicatedMapTest.java"))
+        self.assertEqual(ran(["javac", "--release", "11", "-cp", jars, "-d", self.folder, test]), (0, ""))
+        words = ["java", f"-Dcasbench.program={self.program}", "-cp", f"{jars}{os.pathsep}{self.folder}"]
+        words += ["org.junit.platform.console.ConsoleLauncher", "--disable-banner", "--details=summary", "-c", "casbench.examples.ReplicatedMapTest"]
+        status, said = ran(words)
+        self.assertEqual(status, 0, said)
+        self.assertRegex(said, r"\[ +5 tests successful +\]")
+
+    def test_page(self):
+        """The session of the folder's page prints what it shows."""
+        copied_checkout(self.program, self.folder)
+        (session,) = sessions("recording/java/README.md")
+        commands, wanted = parted(session)
+        status, said = ran(["bash", "-ec", commands], cwd=self.folder)
+        self.assertEqual(status, 0, said)
+        self.assertTrue(is_as_wanted(said, wanted), said)
+
+    def test_gradle(self):
+        """The task passes over what is explained, and fails at what isn't, with what explain says, and at too few calls."""
+        if shutil.which("gradle") is None:
+            self.skipTest("Debian's package gradle isn't here, so the task of Gradle was not run")
+        (self.folder / "build.gradle").write_text(f"apply from: '{JAVA}/check-histories.gradle'\n")
+        (self.folder / "settings.gradle").write_text("")
+        (self.folder / "build").mkdir()
+        words = ["gradle", "--offline", "--no-daemon", "-q", "-g", str(self.folder / "home"), f"-Pcasbench={self.program}", "checkHistories"]
+        for name, wanted in (("right", ['"answer":"yes"']), ("stale-get", ["Stale read: a get returned", "4 calls, fewer than 5"])):
+            with self.subTest(name):
+                shutil.copy(TOP / "examples" / f"{name}.ndjson", self.folder / "build")
+                if name != "right":
+                    (self.folder / "build" / "few.ndjson").write_text("".join(RIGHT.splitlines(keepends=True)[:8]))
+                status, said = ran([*words, "-PcasbenchOptions=--profile opensearch --at-least 5"], cwd=self.folder)
+                self.assertEqual(status == 0, name == "right", said)
+                for it in wanted:
+                    self.assertIn(it, said)
 
 
 if __name__ == "__main__":

@@ -13,6 +13,7 @@ import java.nio.file.StandardOpenOption;
 import java.util.ArrayList;
 import java.util.Arrays;
 import java.util.List;
+import java.util.Locale;
 import java.util.Map;
 import java.util.concurrent.ConcurrentHashMap;
 import java.util.concurrent.ConcurrentLinkedQueue;
@@ -637,7 +638,7 @@ public final class CasHistory implements AutoCloseable {
 
         private void note(String text) {
             StringBuilder plain = new StringBuilder();
-            text.chars().forEach(c -> plain.append(c >= ' ' && c < 0x7f ? String.valueOf((char) c) : String.format("\\u%04x", c)));
+            text.chars().forEach(c -> plain.append(c >= ' ' && c < 0x7f ? String.valueOf((char) c) : String.format(Locale.ROOT, "\\u%04x", c)));
             notes.add(new Note((int) state.get(), plain.toString()));
         }
 
@@ -940,7 +941,7 @@ public final class CasHistory implements AutoCloseable {
                 if (c >= ' ' && c < 0x7f && c != '"' && c != '\\') {
                     text.append(c);
                 } else {
-                    text.append(String.format("\\u%04x", (int) c));
+                    text.append(String.format(Locale.ROOT, "\\u%04x", (int) c));
                 }
             }
             return text.append('"').toString().getBytes(StandardCharsets.US_ASCII);

@@ -1,0 +1,103 @@
+import casbench.examples.ConcurrentVersionedWritesIT;
+import casbench.examples.ReplicatedMap;
+import casbench.examples.ReplicatedMap.Fault;
+import casbench.examples.ReplicatedMap.Version;
+
+import java.nio.file.Paths;
+import java.util.List;
+import java.util.Map;
+import java.util.concurrent.atomic.AtomicLong;
+
+import org.opensearch.OpenSearchException;
+import org.opensearch.action.ActionRequest;
+import org.opensearch.action.ActionType;
+import org.opensearch.action.DocWriteResponse.Result;
+import org.opensearch.action.delete.DeleteRequest;
+import org.opensearch.action.delete.DeleteResponse;
+import org.opensearch.action.get.GetRequest;
+import org.opensearch.action.get.GetResponse;
+import org.opensearch.action.index.IndexRequest;
+import org.opensearch.action.index.IndexResponse;
+import org.opensearch.client.Client;
+import org.opensearch.core.action.ActionListener;
+import org.opensearch.core.action.ActionResponse;
+import org.opensearch.index.engine.VersionConflictEngineException;
+
+/** The example of a cluster's test, on a replicated map in the place of the cluster: {@code OnMap FILE FAULT}. */
+public final class OnMap implements Client, ConcurrentVersionedWritesIT.Cluster {
+    private static final int ANSWERS_LOST = 20;
+
+    private final ReplicatedMap map;
+    private final AtomicLong asked = new AtomicLong();
+
+    private OnMap(Fault fault) {
+        map = new ReplicatedMap(fault);
+    }
+
+    public static void main(String[] words) throws InterruptedException {
+        try {
+            ConcurrentVersionedWritesIT.run(new OnMap(Fault.valueOf(words[1])), Paths.get(words[0]), 8, 500);
+            System.out.println("passed");
+        } catch (AssertionError told) {
+            System.out.println("failed: " + told.getMessage());
+        }
+    }
+
+    @Override
+    public List<Client> clients() {
+        return List.of(this, this, this);
+    }
+
+    @Override
+    public void disrupt() {
+        map.promote();
+        try {
+            Thread.sleep(5);
+        } catch (InterruptedException interrupted) {
+            throw new IllegalStateException(interrupted);
+        }
+    }
+
+    /** Performs the request; one answer in twenty is lost. */
+    @Override
+    @SuppressWarnings("unchecked")
+    public <Q extends ActionRequest, R extends ActionResponse> void execute(ActionType<R> action, Q request, ActionListener<R> listener) {
+        ActionResponse response = performed(request);
+        if (asked.incrementAndGet() % ANSWERS_LOST == 0) {
+            listener.onFailure(new OpenSearchException("the node was disconnected"));
+        } else if (response == null) {
+            listener.onFailure(new VersionConflictEngineException("version conflict"));
+        } else {
+            listener.onResponse((R) response);
+        }
+    }
+
+    private ActionResponse performed(ActionRequest request) {
+        if (request instanceof GetRequest) {
+            return got(((GetRequest) request).id());
+        } else if (request instanceof DeleteRequest) {
+            DeleteRequest delete = (DeleteRequest) request;
+            Version version = map.write(delete.id(), null, delete.ifSeqNo(), delete.ifPrimaryTerm());
+            Result result = version.replaces ? Result.DELETED : Result.NOT_FOUND;
+            return new DeleteResponse(delete.id(), version.seqNo, version.primaryTerm, result);
+        }
+        IndexRequest index = (IndexRequest) request;
+        boolean isCreate = index.opType() == IndexRequest.OpType.CREATE;
+        Version version = isCreate
+            ? map.create(index.id(), index.sourceAsMap())
+            : map.write(index.id(), index.sourceAsMap(), index.ifSeqNo(), index.ifPrimaryTerm());
+        if (version == null) {
+            return null;
+        }
+        Result result = version.replaces ? Result.UPDATED : Result.CREATED;
+        return new IndexResponse(index.id(), version.seqNo, version.primaryTerm, result);
+    }
+
+    @SuppressWarnings("unchecked")
+    private GetResponse got(String id) {
+        Version version = map.get(id);
+        return version == null
+            ? new GetResponse(id, -2, 0, false, null)
+            : new GetResponse(id, version.seqNo, version.primaryTerm, true, (Map<String, Object>) version.value);
+    }
+}
