@@ -1,0 +1,149 @@
+"""Puts the verdicts of histories that were checked on several machines together to one.
+
+    python3 -m casbench_recording.verdicts parts
+
+For each parts/NAME.ndjson a job has left parts/NAME.ndjson.verdict: what `casbench check --json` printed of it, and in the last line the
+exit status. If the histories are those of the shards of a recording, one for each, an order of all calls explains the recording exactly
+if each history is explained (docs/RECORDING.md). A history without a verdict, or whose verdict is older than it, was not judged.
+"""
+
+import argparse
+import json
+import os
+import sys
+from collections import Counter
+from typing import Any, Dict, List, NamedTuple, Optional, Sequence, Tuple
+
+SUFFIX, OF_A_VERDICT = ".ndjson", ".verdict"
+
+SEVERITY = (3, 4, 5, 1, 2, 6, 0)
+"""The exit statuses of checks, that of the gravest first: what wasn't judged, what isn't explained, what is no history, too few calls."""
+
+NOT_JUDGED, NOT_EXPLAINED, REFUSED, TOO_FEW, EXPLAINED = 4, 1, 2, 6, 0
+
+ANSWERS = {EXPLAINED: {"yes"}, TOO_FEW: {"yes"}, NOT_EXPLAINED: {"no", "refuted"}, REFUSED: {"refused"}}
+"""Which answers a check has with a status."""
+
+MEMBERS = {"no": ("event", "call", "before"), "refuted": ("kind", "calls", "event", "call", "before"), "refused": ("line", "cause")}
+"""The members that stand in the line of an answer, in their order."""
+
+COUNTS = ("docs", "calls", "left_out", "gets")
+"""Those of a `yes`."""
+
+
+class Verdict(NamedTuple):
+    """What became of the check of a history: the exit status, and what was answered; or why there is no answer."""
+
+    file: str
+    status: int
+    answer: Dict[str, Any]
+    fault: str = ""
+
+    @property
+    def word(self) -> str:
+        """The answer's first word."""
+        return str(self.answer["answer"]) if not self.fault else "not judged"
+
+    @property
+    def line(self) -> str:
+        """The line that a check without `--json` prints."""
+        if self.fault:
+            return f"{self.file}: {self.fault}"
+        values = counts_of(self.answer) if self.word == "yes" else {key: self.answer[key] for key in MEMBERS[self.word]}
+        few = ", fewer calls than asked for" if self.status == TOO_FEW else ""
+        return f"{self.file}: {line_of(self.word, values)}{few}"
+
+
+def counts_of(answer: Dict[str, Any]) -> Dict[str, int]:
+    """The counts of a `yes`, in their order."""
+    return {key: answer["counts"][key] for key in COUNTS if key in answer["counts"]}
+
+
+def line_of(word: str, values: Dict[str, Any]) -> str:
+    """The word of an answer with its values."""
+    shown = {key: ",".join(map(str, it)) if isinstance(it, list) else it for key, it in values.items()}
+    return " ".join([word, *(f"{key}={it}" for key, it in shown.items())])
+
+
+def verdict_of(history: str) -> Verdict:
+    """The verdict that a job has left beside a history."""
+    file = os.path.basename(history)
+    try:
+        if os.stat(history + OF_A_VERDICT).st_mtime_ns < os.stat(history).st_mtime_ns:
+            return Verdict(file, NOT_JUDGED, {}, "its verdict is older than the history")
+        with open(history + OF_A_VERDICT, encoding="utf-8") as text:
+            *printed, last = text.read().splitlines() or [""]
+    except (OSError, UnicodeDecodeError) as fault:
+        return Verdict(file, NOT_JUDGED, {}, f"it has no verdict: {fault}")
+    status = int(last) if last.isdecimal() else NOT_JUDGED
+    answer = answer_of(status, printed)
+    if answer is None:
+        return Verdict(file, status if status in (3, 5) else NOT_JUDGED, {}, f"the check failed, with status {last or 'unknown'}")
+    return Verdict(file, status, answer)
+
+
+def answer_of(status: int, printed: Sequence[str]) -> Optional[Dict[str, Any]]:
+    """The object that a check printed, or None if it is none that a check has with this status."""
+    try:
+        answer = json.loads("\n".join(printed))
+        word = answer["answer"]
+        needed = answer["counts"] if word == "yes" else answer
+        is_whole = all(it in needed for it in (COUNTS[:3] if word == "yes" else MEMBERS[word]))
+    except (ValueError, KeyError, TypeError):
+        return None
+    return answer if word in ANSWERS.get(status, ()) and is_whole else None
+
+
+def together(verdicts: Sequence[Verdict], at_least: int) -> Tuple[int, str]:
+    """The status of all verdicts, which is that of the gravest one, and the line of all."""
+    if not verdicts:
+        return NOT_JUDGED, "not judged: there is no history"
+    if len({json.dumps(it.answer.get("reading"), sort_keys=True) for it in verdicts if not it.fault}) > 1:
+        return NOT_JUDGED, "not judged: the histories were checked in different readings"
+    status = min((it.status for it in verdicts), key=SEVERITY.index)
+    words = Counter(it.word for it in verdicts)
+    if status not in (EXPLAINED, TOO_FEW):
+        word = next(it for it in ("not judged", "refuted", "no", "refused") if words[it] and status_fits(it, status))
+        return status, f"{word}: of {len(verdicts)} histories " + ", ".join(f"{count} {it}" for it, count in sorted(words.items()))
+    counts: Dict[str, int] = {"histories": len(verdicts)}
+    for it in verdicts:
+        for key, value in counts_of(it.answer).items():
+            counts[key] = counts.get(key, 0) + value
+    line = line_of("yes", counts)
+    if status == EXPLAINED and counts["calls"] < at_least:
+        return TOO_FEW, f"{line}, fewer calls than {at_least}"
+    return status, line
+
+
+def status_fits(word: str, status: int) -> bool:
+    """Whether an answer is one that stands for a status."""
+    return (word == "not judged") == (status in (3, 4, 5)) and (word == "refused") == (status == REFUSED)
+
+
+def histories_of(folder: str) -> List[str]:
+    """The histories of a folder, in the order of the bytes of their names, in which jobs count them."""
+    names = [it.name for it in os.scandir(folder) if it.name.endswith(SUFFIX)]
+    return [os.path.join(folder, it) for it in sorted(names, key=os.fsencode)]
+
+
+def main() -> int:
+    """Prints the verdicts that aren't `yes`, and then that of all; the exit status is that of the gravest."""
+    parser = argparse.ArgumentParser(prog="casbench_recording.verdicts", description="Puts the verdicts of a folder's histories together.")
+    parser.add_argument("folder", metavar="DIR", help="the folder of the histories, *.ndjson, and of their verdicts, *.ndjson.verdict")
+    parser.add_argument("--at-least", type=int, default=0, metavar="CALLS", help="of all histories together; a yes with fewer has status 6")
+    options = parser.parse_args()
+    try:
+        verdicts = [verdict_of(it) for it in histories_of(options.folder)]
+    except OSError as fault:
+        print(f"{parser.prog}: {options.folder}: {fault.strerror}", file=sys.stderr)
+        return NOT_JUDGED
+    for it in verdicts:
+        if it.status != EXPLAINED:
+            print(it.line)
+    status, line = together(verdicts, options.at_least)
+    print(line)
+    return status
+
+
+if __name__ == "__main__":
+    sys.exit(main())
