@@ -39,6 +39,7 @@ DOCUMENTS = [
     *STORES,
     "recording/README.md",
     "recording/java/README.md",
+    "examples/opensearch/README.md",
     *sorted(f"docs/{it.name}" for it in (TOP / "docs").glob("*.md")),
 ]
 

@@ -1,0 +1,59 @@
+#!/usr/bin/env python3
+"""Has the node of shard 0's primary give it up: a copy in sync becomes the primary.
+
+    python3 move_primary.py
+
+CASBENCH_NODES has the addresses of the nodes, of which the first that answers is asked; CASBENCH_INDEX the index; CASBENCH_CA_FILE the
+authorities to trust. Who asks stands in OPENSEARCH_USER and OPENSEARCH_PASSWORD. With DRY_RUN_LOG nothing is asked, and a line is written
+to that file. The status is 1 if no node did it.
+"""
+
+import base64
+import json
+import os
+import ssl
+import sys
+import urllib.error
+import urllib.request
+
+SECONDS = 20
+
+
+def ask(url, body=None):
+    """What a node answers: a value of JSON. Raises OSError if it answers with a fault, or not at all."""
+    request = urllib.request.Request(url, json.dumps(body).encode() if body is not None else None, {"Content-Type": "application/json"})
+    user = os.environ.get("OPENSEARCH_USER")
+    if user:
+        pair = f"{user}:{os.environ.get('OPENSEARCH_PASSWORD', '')}".encode()
+        request.add_header("Authorization", "Basic " + base64.b64encode(pair).decode())
+    trust = ssl.create_default_context(cafile=os.environ.get("CASBENCH_CA_FILE")) if url.startswith("https:") else None
+    with urllib.request.urlopen(request, timeout=SECONDS, context=trust) as answer:
+        return json.load(answer)
+
+
+def move(url, index):
+    """Asks a node for the one that has the primary, and has it give the primary up; returns that one's name."""
+    shards = ask(f"{url}/_cat/shards/{index}?format=json&h=shard,prirep,node")
+    (node,) = [it["node"] for it in shards if (it["shard"], it["prirep"]) == ("0", "p")]
+    cancel = {"index": index, "shard": 0, "node": node, "allow_primary": True}
+    ask(f"{url}/_cluster/reroute", {"commands": [{"cancel": cancel}]})
+    return node
+
+
+def main():
+    index, log = os.environ["CASBENCH_INDEX"], os.environ.get("DRY_RUN_LOG")
+    if log:
+        with open(log, "a", encoding="utf-8") as file:
+            file.write(f"move the primary of {index}\n")
+        return 0
+    for url in os.environ["CASBENCH_NODES"].split(","):
+        try:
+            print(f"the primary leaves {move(url, index)}")
+            return 0
+        except (OSError, ValueError, KeyError, urllib.error.URLError) as fault:
+            print(f"{url}: {fault}", file=sys.stderr)
+    return 1
+
+
+if __name__ == "__main__":
+    sys.exit(main())

@@ -1,0 +1,207 @@
+#!/usr/bin/env python3
+"""Tests examples/opensearch: its compose file, its plans, what moves a primary, and ./try on the stand-in in the place of OpenSearch.
+
+    python3 tests/opensearch_example.py [PROGRAM]
+
+PROGRAM is the built casbench; if it isn't named, the one that ./casbench would run. Without Debian's docker-compose the compose file isn't
+read; a line says so. No engine is asked, and no image is fetched. The last line says how many tests passed and failed.
+"""
+
+import http.server
+import json
+import os
+import pathlib
+import re
+import shutil
+import subprocess
+import sys
+import tempfile
+import threading
+import unittest
+
+from program import TOP
+from program_test import ProgramTest, run_tests
+from recordings import environment
+
+from casbench_recording.disturb import plan_of
+
+EXAMPLE = TOP / "examples" / "opensearch"
+COMPOSE = EXAMPLE / "compose.yml"
+PLANS = sorted((EXAMPLE / "plans").iterdir())
+SECONDS, DETECTION = 180, 30
+"""How long ./try records, and how long it takes nodes of OpenSearch to remove one that hangs."""
+
+
+def dry_run(program, out, *words):
+    """The status of a dry run, and what it prints."""
+    command = [EXAMPLE / "try", "--dry-run", "--program", program, "--seconds", "3", "--divide", "40", *words, out]
+    ran = subprocess.run(command, env=environment(), stdin=subprocess.DEVNULL, stdout=subprocess.PIPE, stderr=subprocess.STDOUT, text=True, timeout=120)
+    return ran.returncode, ran.stdout
+
+
+class Compose(ProgramTest):
+    """The compose file."""
+
+    def config(self, *words, **more):
+        """What docker's compose reads."""
+        command = ["docker-compose", "-f", COMPOSE, "config", *words]
+        ran = subprocess.run(command, env=environment(**more), stdin=subprocess.DEVNULL, capture_output=True, text=True, timeout=60)
+        self.assertEqual(ran.returncode, 0, ran.stderr)
+        return ran.stdout
+
+    def test_config(self):
+        """It is read, with each kind of security and with another version."""
+        if shutil.which("docker-compose") is None:
+            self.skipTest("Debian's package docker-compose isn't here, so the compose file was not read")
+        self.assertEqual(self.config("--services").split(), ["node-1", "node-2", "node-3"])
+        self.assertEqual(len(re.findall(r"DISABLE_SECURITY_PLUGIN: ['\"]?true['\"]?\n", self.config())), 3)
+        read = self.config(SECURITY_OFF="false", OPENSEARCH_VERSION="2.4.0", OPENSEARCH_PASSWORD="not-for-others")
+        for line in (r"DISABLE_SECURITY_PLUGIN: ['\"]?false['\"]?", "image: opensearchproject/opensearch:2.4.0", "OPENSEARCH_INITIAL_ADMIN_PASSWORD: not-for-others"):
+            self.assertEqual(len(re.findall(f"{line}\n", read)), 3)
+
+    def test_nodes(self):
+        """Each node has the address of its own that it tells others, and a network with none of them for its clients."""
+        text = COMPOSE.read_text(encoding="utf-8")
+        nodes = re.findall(r"container_name: casbench-(node-\d)\n(.*?)\n\n", text, re.DOTALL)
+        self.assertEqual([name for name, _ in nodes], ["node-1", "node-2", "node-3"])
+        for at, (name, body) in enumerate(nodes, start=1):
+            address = f"172.28.57.{10 + at}"
+            for it in (f"node.name: {name}", f"transport.publish_host: {address}", f"clients-{at}:", f"nodes: {{ipv4_address: {address}}}"):
+                self.assertIn(it, body)
+            self.assertIn(f"127.0.0.1:{9210 + at}:9200", body)
+
+
+class Plans(ProgramTest):
+    """What is done to the nodes."""
+
+    def test_each_plan(self):
+        self.assertEqual([it.name for it in PLANS], ["cut", "kill", "move", "pause", "restart"])
+        for path in PLANS:
+            for it in plan_of(path.read_text(encoding="utf-8")):
+                with self.subTest(f"{path.name}: {it.begin}"):
+                    self.assertLess(it.after + it.lasts, SECONDS)
+                    for command in filter(None, (it.begin, it.undo)):
+                        self.assertEqual(subprocess.run(["/bin/sh", "-n", "-c", command]).returncode, 0)
+                        self.assertLessEqual(set(re.findall(r"casbench-\S+", command)), {"casbench-nodes", *(f"casbench-node-{it}" for it in (1, 2, 3))})
+
+    def test_what_hangs_is_removed(self):
+        """A node that hangs or is cut off is so for longer than its removal takes, never node-1, and one at a time."""
+        for name in ("pause", "cut"):
+            plan = sorted(plan_of((EXAMPLE / "plans" / name).read_text(encoding="utf-8")), key=lambda it: it.after)
+            with self.subTest(name):
+                self.assertTrue(all(it.lasts > 1.5 * DETECTION and "node-1" not in it.begin for it in plan))
+                self.assertTrue(all(first.after + first.lasts + DETECTION < second.after for first, second in zip(plan, plan[1:])))
+
+    def test_addresses(self):
+        """A node that is connected again has its address of before."""
+        again = re.findall(r"connect --ip (\S+) casbench-nodes casbench-(\S+)", (EXAMPLE / "plans" / "cut").read_text(encoding="utf-8"))
+        self.assertEqual(again, [("172.28.57.12", "node-2"), ("172.28.57.13", "node-3")])
+
+
+class Moving(unittest.TestCase):
+    """What has a primary move, on a server that answers as the cluster's documentation says."""
+
+    def served(self, shards):
+        """A server, until the test ends: its address, and what it is asked."""
+        asked = []
+
+        class Node(http.server.BaseHTTPRequestHandler):
+            def answer(self, value):
+                body = json.dumps(value).encode()
+                self.send_response(200)
+                self.send_header("Content-Length", str(len(body)))
+                self.end_headers()
+                self.wfile.write(body)
+
+            def do_GET(self):
+                asked.append((self.path, self.headers["Authorization"]))
+                self.answer(shards)
+
+            def do_POST(self):
+                asked.append((self.path, json.loads(self.rfile.read(int(self.headers["Content-Length"])))))
+                self.answer({"acknowledged": True})
+
+            def log_message(self, *_):
+                pass
+
+        server = http.server.ThreadingHTTPServer(("127.0.0.1", 0), Node)
+        threading.Thread(target=server.serve_forever, daemon=True).start()
+        self.addCleanup(server.server_close)
+        self.addCleanup(server.shutdown)
+        return f"http://127.0.0.1:{server.server_address[1]}", asked
+
+    def moved(self, urls):
+        """The status, with these nodes."""
+        more = {"CASBENCH_NODES": ",".join(urls), "CASBENCH_INDEX": "carts", "OPENSEARCH_USER": "admin", "OPENSEARCH_PASSWORD": "secret"}
+        ran = subprocess.run([sys.executable, EXAMPLE / "move_primary.py"], env=environment(**more), capture_output=True, text=True, timeout=60)
+        return ran.returncode
+
+    def test_the_node_that_has_it(self):
+        """The first node that answers is asked."""
+        rows = [("0", "r", "node-1"), ("1", "p", "node-1"), ("0", "p", "node-3")]
+        url, asked = self.served([dict(zip(("shard", "prirep", "node"), it)) for it in rows])
+        self.assertEqual(self.moved(["http://127.0.0.1:9", url]), 0)
+        (path, basic), (target, body) = asked
+        self.assertEqual((path.partition("?")[0], basic), ("/_cat/shards/carts", "Basic YWRtaW46c2VjcmV0"))
+        cancel = {"index": "carts", "shard": 0, "node": "node-3", "allow_primary": True}
+        self.assertEqual((target, body), ("/_cluster/reroute", {"commands": [{"cancel": cancel}]}))
+
+    def test_nobody(self):
+        url, asked = self.served([])
+        self.assertEqual(self.moved([url]), 1)
+        self.assertEqual(len(asked), 1)
+
+
+class DryRun(ProgramTest):
+    """./try on the stand-in."""
+
+    def setUp(self):
+        folder = tempfile.TemporaryDirectory(prefix="casbench-try-")
+        self.addCleanup(folder.cleanup)
+        self.folder = pathlib.Path(folder.name)
+
+    def check(self, out, words, wanted, status, commands):
+        """The status, the verdicts of both recordings, and what the plan has asked of docker, if it was time for that."""
+        got, said = dry_run(self.program, self.folder / out, *words)
+        profile = re.search("^[a-z]+, gets of any copy, check --profile opensearch: (.*)$", said, re.MULTILINE)
+        strict = re.search("^[a-z]+, gets of the primary, check --rule-out: (.*)$", said, re.MULTILINE)
+        self.assertTrue(profile and strict, said)
+        self.assertRegex(f"{profile[1]}; {strict[1]}", wanted)
+        self.assertEqual(got, status, said)
+        self.assertNotIn("went wrong", said)
+        log = self.folder / out / f"{out}.commands"
+        self.assertLessEqual(set(commands), set(log.read_text().splitlines() if log.exists() else ()))
+
+    def test_verdicts(self):
+        """A healthy cluster is explained under the profile, whatever is done to it; of a strict check that holds if nothing is done. One
+        that performs a write under a condition that isn't met is refuted by both."""
+        fault = ["--plan", "none", "--stand-in", "--fault lost-update --every 3"]
+        of_one = "docker {} casbench-node-2"
+        rows = [
+            ("nothing", self.check, "none", ["--plan", "none"], "^yes .*; yes ", 0, ()),
+            ("kill", self.check, "kill", ["--plan", "kill"], "^yes ", 0, [of_one.format(it) for it in ("kill", "start")]),
+            ("pause", self.check, "pause", ["--plan", "pause"], "^yes ", 0, [of_one.format("pause")]),
+            ("move", self.check, "move", ["--plan", "move"], "^yes ", 0, [f"move the primary of casbench-move-{it}" for it in ("any", "primary")]),
+            ("a fault", self.check, "fault", fault, "^refuted kind=stale-swap .*; refuted kind=", 1, ()),
+        ]
+        self.run_subtests(lambda check, *words: check(*words), rows, workers=3)
+
+    def test_matrix(self):
+        """A row for each plan, and the recordings beside each other."""
+        got, said = dry_run(self.program, self.folder / "matrix", "--matrix", "--plans", "none,restart")
+        self.assertEqual(got, 0, said)
+        rows = re.findall(r"^\| (\w+) \| `(\w+) docs=8 calls=\d+ left_out=\d+ gets=\d+` \| `(\w+) .*` \|$", said, re.MULTILINE)
+        self.assertEqual([it[:2] for it in rows], [("none", "yes"), ("restart", "yes")])
+        names = {it.name for it in (self.folder / "matrix").glob("*.ndjson")}
+        self.assertEqual(names, {f"{plan}-{gets}{it}.ndjson" for plan in ("none", "restart") for gets in ("any", "primary") for it in ("", "-load")})
+
+    def test_faults_of_the_command(self):
+        """Words that are wrong, and a folder that is there."""
+        self.assertEqual(dry_run(self.program, self.folder / "x", "--plan", "nonesuch")[0], 2)
+        self.assertEqual(dry_run(self.program, self.folder / "x", "--matrix", "--plans", "nonesuch")[0], 2)
+        self.assertEqual(dry_run(self.program, self.folder)[0], 4)
+        self.assertEqual(os.listdir(self.folder), [])
+
+
+if __name__ == "__main__":
+    sys.exit(run_tests())
