@@ -188,9 +188,9 @@ class Room(JavaTest):
         """Files that become full under eight threads are explained, whose documents go on or are new ones."""
         self.java("Load", self.file, 8, 200_000, 1, "strict", "most=100000")
         self.assertEqual(judged(self.program, f"{self.file}-1", "--rule-out").split()[0], "yes")
-        self.java("Load", self.file.with_name("r"), 8, 200_000, 1, "rotate", "most=100000", "new-documents")
+        self.java("Load", self.file.with_name("r"), 8, 200_000, 1, "rotate", "most=10000", "new-documents")
         files = sorted(self.folder.glob("r-*"))
-        self.assertGreater(len(files), 3)
+        self.assertGreater(len(files), 15)
         for it in files:
             with self.subTest(it.name):
                 self.assertEqual(judged(self.program, it, "--profile", "opensearch").split()[0], "yes")

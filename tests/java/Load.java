@@ -5,7 +5,9 @@ import java.nio.file.Path;
 import java.nio.file.Paths;
 import java.util.ArrayList;
 import java.util.List;
+import java.util.Map;
 import java.util.SplittableRandom;
+import java.util.concurrent.ConcurrentHashMap;
 import java.util.concurrent.atomic.AtomicLong;
 
 /**
@@ -14,6 +16,7 @@ import java.util.concurrent.atomic.AtomicLong;
  */
 public final class Load {
     private static final int DOCUMENTS = 256;
+    private static final int CALLS_OF_A_GENERATION = 2000;
 
     /** A document: its lock guards it. */
     private static final class Document {
@@ -25,6 +28,8 @@ public final class Load {
     private final CasHistory history;
     private final AtomicLong numbers = new AtomicLong();
     private final boolean takesNewDocuments;
+    private final AtomicLong turns = new AtomicLong();
+    private final Map<Long, Document[]> generations = new ConcurrentHashMap<>();
 
     private Load(CasHistory history, boolean takesNewDocuments) {
         this.history = history;
@@ -91,16 +96,15 @@ public final class Load {
 
     private void run(int seed, int calls, Document[] documents) {
         SplittableRandom random = new SplittableRandom(seed);
-        Document[] own = documents;
         for (int i = 0; i < calls; i++) {
             int at = random.nextInt(DOCUMENTS);
-            String id = "d" + at;
             if (takesNewDocuments) {
-                // (those of a thread, which it takes anew every so often: then no call of an earlier one follows)
-                own = i % 1000 == 0 ? documents() : own;
-                id = "d" + seed + "-" + i / 1000 + "-" + at;
+                // (all threads take others every so often, so that each is first asked for by several at once)
+                long generation = turns.getAndIncrement() / CALLS_OF_A_GENERATION;
+                one(random, generations.computeIfAbsent(generation, it -> documents())[at], "d" + generation + "-" + at);
+            } else {
+                one(random, documents[at], "d" + at);
             }
-            one(random, own[at], id);
         }
     }
 

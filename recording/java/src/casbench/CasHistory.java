@@ -67,6 +67,7 @@ public final class CasHistory implements AutoCloseable {
     private final LongAdder late = new LongAdder();
     private volatile Part current;
     private volatile boolean hasEnded;
+    private volatile UncheckedIOException fault;
 
     private CasHistory(Path path, Options options) {
         this.path = path;
@@ -253,23 +254,16 @@ public final class CasHistory implements AutoCloseable {
      * call has no line; the test goes on.
      */
     public Call call(Operation operation) {
-        while (true) {
-            Part part = current;
-            Document document = documentOf(operation, part);
-            Call call = new Call(part, operation, document.quotedId);
-            if (document.part != part) {
-                leftOut.increment();
-                return call;
+        // (a document whose file takes no more calls has none in a later file either: what is left out of it shows in no file)
+        Document document = documentOf(operation);
+        Call call = new Call(document.part, operation, document.quotedId);
+        if (!document.part.begin(call)) {
+            leftOut.increment();
+            if (options.rotates) {
+                rotate(document.part);
             }
-            if (part.begin(call)) {
-                return call;
-            }
-            if (!options.rotates || hasEnded) {
-                leftOut.increment();
-                return call;
-            }
-            rotate(part);
         }
+        return call;
     }
 
     /** Puts a note on the next line, such as what was done to the store. It has at most 1,000 letters; what isn't ASCII is escaped. */
@@ -277,12 +271,12 @@ public final class CasHistory implements AutoCloseable {
         current.note(text);
     }
 
-    private Document documentOf(Operation operation, Part part) {
+    private Document documentOf(Operation operation) {
         Document document = documents.get(operation.id);
         if (document == null) {
             int length = lengthOf(operation.id);
             require(length >= 1 && length <= LONGEST_ID, "an id is a text of 1 to 512 bytes, and not " + operation.id);
-            Document added = new Document(operation.id, part, operation.shard);
+            Document added = new Document(operation.id, current, operation.shard);
             document = documents.putIfAbsent(operation.id, added);
             document = document == null ? added : document;
         }
@@ -543,12 +537,21 @@ public final class CasHistory implements AutoCloseable {
         for (Part part : parts) {
             part.await();
         }
+        if (fault != null) {
+            throw fault;
+        }
     }
 
+    /** Begins with the next file. If it can't be made the history ends, and `close` throws. */
     private void rotate(Part full) {
         synchronized (parts) {
             if (current == full && !hasEnded) {
-                current = begun(parts.size() + 1);
+                try {
+                    current = begun(parts.size() + 1);
+                } catch (UncheckedIOException why) {
+                    hasEnded = true;
+                    fault = why;
+                }
             }
         }
     }
@@ -577,7 +580,6 @@ public final class CasHistory implements AutoCloseable {
         private final Path file;
         private final Options options;
         private final LongAdder late;
-        private final AtomicReferenceArray<Event> slots;
         private final ConcurrentLinkedQueue<Note> notes = new ConcurrentLinkedQueue<>();
         private final Writer writer;
         private final Thread thread;
@@ -589,8 +591,7 @@ public final class CasHistory implements AutoCloseable {
             this.file = file;
             this.options = options;
             this.late = late;
-            slots = new AtomicReferenceArray<>(options.mostEvents);
-            writer = new Writer(file, slots, notes, options.flushes, () -> {
+            writer = new Writer(file, options, notes, () -> {
                 close();
                 ended.run();
             });
@@ -630,7 +631,7 @@ public final class CasHistory implements AutoCloseable {
         }
 
         private void put(int at, Event event) {
-            slots.setRelease(at, event);
+            writer.slots.setRelease(at, event);
             if (options.flushes) {
                 writer.awaitWritten(thread, at);
             }
@@ -698,12 +699,13 @@ public final class CasHistory implements AutoCloseable {
 
         private final Path file;
         private final FileChannel channel;
-        private final AtomicReferenceArray<Event> slots;
         private final ConcurrentLinkedQueue<Note> notes;
         private final boolean flushes;
         private final Runnable failed;
-        private final Line line = new Line(MOST_BYTES);
-        private final boolean[] open;
+        // (of a file that is written to its end none of these is kept)
+        private AtomicReferenceArray<Event> slots;
+        private boolean[] open;
+        private Line line = new Line(MOST_BYTES);
         private int at;
         private long length;
         private int written;
@@ -711,14 +713,13 @@ public final class CasHistory implements AutoCloseable {
         private volatile int end = -1;
         private volatile IOException fault;
 
-        private Writer(Path file, AtomicReferenceArray<Event> slots, ConcurrentLinkedQueue<Note> notes, boolean flushes, Runnable failed)
-            throws IOException {
+        private Writer(Path file, Options options, ConcurrentLinkedQueue<Note> notes, Runnable failed) throws IOException {
             this.file = file;
-            this.failed = failed;
-            this.slots = slots;
-            this.open = new boolean[slots.length()];
             this.notes = notes;
-            this.flushes = flushes;
+            this.flushes = options.flushes;
+            this.failed = failed;
+            this.slots = new AtomicReferenceArray<>(options.mostEvents);
+            this.open = new boolean[options.mostEvents];
             try {
                 channel = FileChannel.open(file, StandardOpenOption.CREATE_NEW, StandardOpenOption.WRITE);
             } catch (FileAlreadyExistsException there) {
@@ -737,6 +738,9 @@ public final class CasHistory implements AutoCloseable {
                 writeEvents();
                 loseWhatIsOpen();
                 flush();
+                slots = null;
+                open = null;
+                line = null;
             } catch (IOException why) {
                 fail(why);
             } catch (RuntimeException | Error why) {
