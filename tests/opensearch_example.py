@@ -7,21 +7,25 @@ PROGRAM is the built casbench; if it isn't named, the one that ./casbench would 
 read; a line says so. No engine is asked, and no image is fetched. The last line says how many tests passed and failed.
 """
 
+import contextlib
 import http.server
 import json
 import os
 import pathlib
 import re
 import shutil
+import socket
 import subprocess
 import sys
 import tempfile
 import threading
 import unittest
 
+from attacks import CERTIFICATE
 from program import TOP
 from program_test import ProgramTest, run_tests
 from recordings import environment
+from running import free_ports
 
 from casbench_recording.disturb import plan_of
 
@@ -68,7 +72,7 @@ class Compose(ProgramTest):
             address = f"172.28.57.{10 + at}"
             for it in (f"node.name: {name}", f"transport.publish_host: {address}", f"clients-{at}:", f"nodes: {{ipv4_address: {address}}}"):
                 self.assertIn(it, body)
-            self.assertIn(f"127.0.0.1:{9210 + at}:9200", body)
+            self.assertIn(f'"127.0.0.1:${{PORT_{at}:-{9210 + at}}}:9200"', body)
 
 
 class Plans(ProgramTest):
@@ -150,6 +154,68 @@ class Moving(unittest.TestCase):
         url, asked = self.served([])
         self.assertEqual(self.moved([url]), 1)
         self.assertEqual(len(asked), 1)
+
+
+# What stands for docker: compose starts the stand-in as the cluster, with TLS if security is on; nodes aren't disturbed.
+DOCKER = """#!/bin/sh
+echo "$*" >>"$FAKE/asked"
+case "$*" in
+*" up -d")
+    if [ "$SECURITY_OFF" = true ]; then set --; else set -- --certificate "$CERTIFICATE"; fi
+    python3 -m casbench_recording.stand_in --port "$PORT_1" --nodes 3 --replicas 2 "$@" >/dev/null 2>&1 &
+    echo $! >"$FAKE/pid" ;;
+*" down --volumes") kill "$(cat "$FAKE/pid")" ;;
+cp*) cp "$CERTIFICATE" "$3" ;;
+esac
+"""
+
+
+class OnDocker(ProgramTest):
+    """./try on a docker that the test stands in for."""
+
+    def tried(self, *words, **more):
+        """The status, what is printed, and what docker is asked."""
+        with tempfile.TemporaryDirectory(prefix="casbench-try-") as folder:
+            fake = pathlib.Path(folder)
+            (fake / "docker").write_text(DOCKER)
+            (fake / "docker").chmod(0o755)
+            more = {"PATH": f"{fake}{os.pathsep}{os.environ['PATH']}", "FAKE": folder, "CERTIFICATE": str(CERTIFICATE), **more}
+            command = [EXAMPLE / "try", "--program", self.program, "--seconds", "3", "--divide", "40", *words, "--port", str(free_row(3)), fake / "out"]
+            how = {"stdin": subprocess.DEVNULL, "stdout": subprocess.PIPE, "stderr": subprocess.STDOUT, "text": True, "timeout": 120}
+            ran = subprocess.run(command, env=environment(**more), **how)
+            asked = fake / "asked"
+            return ran.returncode, ran.stdout, asked.read_text().splitlines() if asked.exists() else []
+
+    def check_plan(self, words, more):
+        status, said, asked = self.tried("--plan", "restart", *words, **more)
+        self.assertEqual(status, 0, said)
+        self.assertRegex(said, "restart, gets of any copy, check --profile opensearch: yes ")
+        self.assertNotIn("went wrong", said)
+        self.assertEqual([sum(it.endswith(word) for it in asked) for word in (" up -d", " down --volumes")], [2, 2])
+        nodes = " ".join(f"casbench-node-{it}" for it in (1, 2, 3))
+        self.assertLessEqual({f"kill {nodes}", f"start {nodes}"}, set(asked))
+
+    def test_a_plan(self):
+        """The nodes are started and removed for each recording, and the plan's commands are run; with security, as admin, by TLS."""
+        rows = [("without", self.check_plan, [], {}), ("with", self.check_plan, ["--security"], {"OPENSEARCH_PASSWORD": "not-for-others"})]
+        self.run_subtests(lambda check, *words: check(*words), rows, workers=2)
+
+    def test_security_without_a_password(self):
+        status, said, asked = self.tried("--security")
+        self.assertEqual((status, said, asked), (4, "try: --security needs the password of admin in OPENSEARCH_PASSWORD\n", []))
+
+
+def free_row(count):
+    """The first of so many ports in a row that nobody listens on."""
+    while True:
+        first = int(free_ports(1)[0])
+        try:
+            with contextlib.ExitStack() as stack:
+                for at in range(count):
+                    stack.enter_context(socket.socket()).bind(("127.0.0.1", first + at))
+            return first
+        except (OSError, OverflowError):
+            continue
 
 
 class DryRun(ProgramTest):
