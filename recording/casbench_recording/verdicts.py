@@ -128,14 +128,14 @@ def histories_of(folder: str) -> List[str]:
 
 def main() -> int:
     """Prints the verdicts that aren't `yes`, and then that of all; the exit status is that of the gravest."""
-    parser = argparse.ArgumentParser(prog="casbench_recording.verdicts", description="Puts the verdicts of a folder's histories together.")
+    parser = argparse.ArgumentParser(description="Puts the verdicts of a folder's histories together.")
     parser.add_argument("folder", metavar="DIR", help="the folder of the histories, *.ndjson, and of their verdicts, *.ndjson.verdict")
     parser.add_argument("--at-least", type=int, default=0, metavar="CALLS", help="of all histories together; a yes with fewer has status 6")
     options = parser.parse_args()
     try:
         verdicts = [verdict_of(it) for it in histories_of(options.folder)]
     except OSError as fault:
-        print(f"{parser.prog}: {options.folder}: {fault.strerror}", file=sys.stderr)
+        print(f"casbench_recording.verdicts: {options.folder}: {fault.strerror}", file=sys.stderr)
         return NOT_JUDGED
     for it in verdicts:
         if it.status != EXPLAINED:

@@ -535,7 +535,8 @@ public final class CasHistory implements AutoCloseable {
             current.close();
         }
         for (Part part : parts) {
-            part.await();
+            UncheckedIOException why = part.await();
+            fault = fault == null ? why : fault;
         }
         if (fault != null) {
             throw fault;
@@ -660,8 +661,8 @@ public final class CasHistory implements AutoCloseable {
             }
         }
 
-        /** Waits until all is written. */
-        private void await() {
+        /** Waits until all is written; returns why it couldn't be, or null. */
+        private UncheckedIOException await() {
             boolean wasInterrupted = false;
             while (thread.isAlive()) {
                 try {
@@ -673,9 +674,8 @@ public final class CasHistory implements AutoCloseable {
             if (wasInterrupted) {
                 Thread.currentThread().interrupt();
             }
-            if (writer.fault != null) {
-                throw new UncheckedIOException(file + ": " + writer.fault.getMessage() + ". The lines before are whole", writer.fault);
-            }
+            IOException why = writer.fault;
+            return why == null ? null : new UncheckedIOException(file + ": " + why.getMessage() + ". The lines before are whole", why);
         }
     }
 
@@ -823,7 +823,7 @@ public final class CasHistory implements AutoCloseable {
         private void closeFile() {
             try {
                 channel.close();
-                if (at == 0) {
+                if (length == 0) {
                     Files.deleteIfExists(file);
                 }
             } catch (IOException why) {
