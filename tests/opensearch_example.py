@@ -102,6 +102,10 @@ class Plans(ProgramTest):
         self.assertEqual(again, [("172.28.57.12", "node-2"), ("172.28.57.13", "node-3")])
 
 
+MEMBERS = ("shard", "prirep", "state", "node")
+"""What a cluster says of each copy."""
+
+
 class Moving(unittest.TestCase):
     """What has a primary move, on a server that answers as the cluster's documentation says."""
 
@@ -137,23 +141,26 @@ class Moving(unittest.TestCase):
     def moved(self, urls):
         """The status, with these nodes."""
         more = {"CASBENCH_NODES": ",".join(urls), "CASBENCH_INDEX": "carts", "OPENSEARCH_USER": "admin", "OPENSEARCH_PASSWORD": "secret"}
-        ran = subprocess.run([sys.executable, EXAMPLE / "move_primary.py"], env=environment(**more), capture_output=True, text=True, timeout=60)
+        command = [sys.executable, EXAMPLE / "move_primary.py", "0"]
+        ran = subprocess.run(command, env=environment(**more), capture_output=True, text=True, timeout=60)
         return ran.returncode
 
     def test_the_node_that_has_it(self):
         """The first node that answers is asked."""
-        rows = [("0", "r", "node-1"), ("1", "p", "node-1"), ("0", "p", "node-3")]
-        url, asked = self.served([dict(zip(("shard", "prirep", "node"), it)) for it in rows])
+        rows = [("0", "r", "STARTED", "node-1"), ("1", "p", "STARTED", "node-1"), ("0", "p", "STARTED", "node-3")]
+        url, asked = self.served([dict(zip(MEMBERS, it)) for it in rows])
         self.assertEqual(self.moved(["http://127.0.0.1:9", url]), 0)
         (path, basic), (target, body) = asked
         self.assertEqual((path.partition("?")[0], basic), ("/_cat/shards/carts", "Basic YWRtaW46c2VjcmV0"))
         cancel = {"index": "carts", "shard": 0, "node": "node-3", "allow_primary": True}
         self.assertEqual((target, body), ("/_cluster/reroute", {"commands": [{"cancel": cancel}]}))
 
-    def test_nobody(self):
-        url, asked = self.served([])
-        self.assertEqual(self.moved([url]), 1)
-        self.assertEqual(len(asked), 1)
+    def test_no_other_copy(self):
+        """A primary isn't given up if no other copy has started."""
+        for rows in ([], [("0", "p", "STARTED", "node-3"), ("0", "r", "INITIALIZING", "node-1")]):
+            url, asked = self.served([dict(zip(MEMBERS, it)) for it in rows])
+            self.assertEqual(self.moved([url]), 1)
+            self.assertEqual({it[0].partition("?")[0] for it in asked}, {"/_cat/shards/carts"})
 
 
 # What stands for docker: compose starts the stand-in as the cluster, with TLS if security is on; nodes aren't disturbed.
@@ -237,6 +244,9 @@ class DryRun(ProgramTest):
         self.assertNotIn("went wrong", said)
         log = self.folder / out / f"{out}.commands"
         self.assertLessEqual(set(commands), set(log.read_text().splitlines() if log.exists() else ()))
+        if out == "move":
+            for it in ("any", "primary"):
+                self.assertIn('"_primary_term":2', (self.folder / out / f"move-{it}.ndjson").read_text())
 
     def test_verdicts(self):
         """A healthy cluster is explained under the profile, whatever is done to it; of a strict check that holds if nothing is done. One
@@ -247,7 +257,7 @@ class DryRun(ProgramTest):
             ("nothing", self.check, "none", ["--plan", "none"], "^yes .*; yes ", 0, ()),
             ("kill", self.check, "kill", ["--plan", "kill"], "^yes ", 0, [of_one.format(it) for it in ("kill", "start")]),
             ("pause", self.check, "pause", ["--plan", "pause"], "^yes ", 0, [of_one.format("pause")]),
-            ("move", self.check, "move", ["--plan", "move"], "^yes ", 0, [f"move the primary of casbench-move-{it}" for it in ("any", "primary")]),
+            ("move", self.check, "move", ["--plan", "move"], "^yes ", 0, ()),
             ("a fault", self.check, "fault", fault, "^refuted kind=stale-swap .*; refuted kind=", 1, ()),
         ]
         self.run_subtests(lambda check, *words: check(*words), rows, workers=3)

@@ -1,11 +1,11 @@
 #!/usr/bin/env python3
 """Has the node of shard 0's primary give it up: a copy in sync becomes the primary.
 
-    python3 move_primary.py
+    python3 move_primary.py [PATIENCE]
 
 CASBENCH_NODES has the addresses of the nodes, of which the first that answers is asked; CASBENCH_INDEX the index; CASBENCH_CA_FILE the
-authorities to trust. Who asks stands in OPENSEARCH_USER and OPENSEARCH_PASSWORD. With DRY_RUN_LOG nothing is asked, and a line is written
-to that file. The status is 1 if no node did it.
+authorities to trust. Who asks stands in OPENSEARCH_USER and OPENSEARCH_PASSWORD. It is tried for PATIENCE seconds, 20 by default, as while
+no other copy has started; then the status is 1.
 """
 
 import base64
@@ -13,9 +13,10 @@ import json
 import os
 import ssl
 import sys
+import time
 import urllib.request
 
-SECONDS = 20
+SECONDS, PATIENCE = 20, 20
 
 
 def ask(url, body=None, known=os.environ):
@@ -31,26 +32,29 @@ def ask(url, body=None, known=os.environ):
 
 def move(url, index):
     """Asks a node for the one that has the primary, and has it give the primary up; returns that one's name."""
-    shards = ask(f"{url}/_cat/shards/{index}?format=json&h=shard,prirep,node")
-    (node,) = [it["node"] for it in shards if (it["shard"], it["prirep"]) == ("0", "p")]
+    shards = [it for it in ask(f"{url}/_cat/shards/{index}?format=json&h=shard,prirep,state,node") if it["shard"] == "0"]
+    started = {kind: [it["node"] for it in shards if (it["prirep"], it["state"]) == (kind, "STARTED")] for kind in "pr"}
+    if not started["p"] or not started["r"]:
+        raise ValueError("no other copy has started")
+    (node,) = started["p"]
     cancel = {"index": index, "shard": 0, "node": node, "allow_primary": True}
     ask(f"{url}/_cluster/reroute", {"commands": [{"cancel": cancel}]})
     return node
 
 
 def main():
-    index, log = os.environ["CASBENCH_INDEX"], os.environ.get("DRY_RUN_LOG")
-    if log:
-        with open(log, "a", encoding="utf-8") as file:
-            file.write(f"move the primary of {index}\n")
-        return 0
-    for url in os.environ["CASBENCH_NODES"].split(","):
-        try:
-            print(f"the primary leaves {move(url, index)}")
-            return 0
-        except (OSError, ValueError, KeyError) as fault:
-            print(f"{url}: {fault}", file=sys.stderr)
-    return 1
+    until = time.monotonic() + float(sys.argv[1] if len(sys.argv) > 1 else PATIENCE)
+    while True:
+        for url in os.environ["CASBENCH_NODES"].split(","):
+            try:
+                print(f"the primary leaves {move(url, os.environ['CASBENCH_INDEX'])}")
+                return 0
+            except (OSError, ValueError, KeyError) as why:
+                fault = f"{url}: {why}"
+        if time.monotonic() > until:
+            print(fault, file=sys.stderr)
+            return 1
+        time.sleep(0.2)
 
 
 if __name__ == "__main__":

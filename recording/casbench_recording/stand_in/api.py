@@ -151,6 +151,30 @@ async def report_shard(coordinator: Coordinator, asked: Asked) -> Answer:
     return 200, {"shards": [[{**place, "primary": it == routing.primary, "node": nodes[it].name} for it in numbers]]}
 
 
+async def list_shards(coordinator: Coordinator, asked: Asked) -> Answer:
+    """Answers where the active copies of an index are, in the words of `_cat/shards?format=json`."""
+    state, nodes = coordinator.node.state, coordinator.node.cluster.nodes
+    rows = []
+    for shard in state.indexes[asked.path[2]].shards:
+        routing = state.routings[shard]
+        for it in sorted(routing.active):
+            kind = "p" if it == routing.primary else "r"
+            rows.append({"shard": str(shard.number), "prirep": kind, "state": "STARTED", "node": nodes[it].name})
+    return 200, rows
+
+
+async def reroute(coordinator: Coordinator, asked: Asked) -> Answer:
+    """Has nodes give up primaries, as the command `cancel` asks for; no other one is known."""
+    node = coordinator.node
+    names = [it.name for it in node.cluster.nodes]
+    for command in asked.value["commands"]:
+        cancel = command["cancel"]
+        shard, number = node.state.indexes[cancel["index"]].shards[cancel["shard"]], names.index(cancel["node"])
+        if not cancel["allow_primary"] or not await node.ask_manager(node.cluster.manager.give_up_primary, shard, number):
+            return error(400, "illegal_argument_exception", f"[cancel] {cancel['node']} has no primary that it can give up")
+    return 200, {"acknowledged": True}
+
+
 async def report_health(coordinator: Coordinator, asked: Asked) -> Answer:
     """Answers how many copies are active."""
     state, manager = coordinator.node.state, coordinator.node.cluster.manager
@@ -196,4 +220,6 @@ ROUTES: List[Tuple[Set[str], Tuple[str, ...], Action]] = [
     ({"GET"}, ("_cluster", "health"), report_health),
     ({"GET"}, ("_cluster", "state", "metadata", "*"), report_state),
     ({"GET"}, ("*", "_search_shards"), report_shard),
+    ({"GET"}, ("_cat", "shards", "*"), list_shards),
+    ({"POST"}, ("_cluster", "reroute"), reroute),
 ]

@@ -116,6 +116,23 @@ class Manager:
             await self._reroute({shard: now._replace(active=now.active | {number})})
         return True
 
+    async def give_up_primary(self, shard: ShardId, number: int) -> bool:
+        """Has the node with a shard's primary give it up to another copy in sync, and makes its own copy again; False if it doesn't have
+        the primary, or if there is no other copy.
+
+        No node takes it for the primary any longer when the other one becomes it, so that no get is answered by its copy then.
+        """
+        async with self._lock:
+            now = self.state.routings.get(shard)
+            left = now.active - {number} if now is not None else frozenset()
+            if now is None or now.primary != number or not left:
+                return False
+            await self._reroute({shard: Routing(now.term, None, left)})
+            left = left & self.members or left
+            await self._reroute({shard: Routing(now.term + 1, max(left), left)})
+            self._bring_in_sync(shard, number)
+        return True
+
     def _bring_in_sync(self, shard: ShardId, number: int) -> None:
         """Has the primary bring a copy in sync."""
         if (shard, number) not in self._recovering:
