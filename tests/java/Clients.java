@@ -104,6 +104,9 @@ public final class Clients {
     private void ended() {
         if (history != null) {
             history.close();
+            if (history.late() != 0) {
+                throw new AssertionError(name + ": a call was ended twice");
+            }
             if (index.ended() != null) {
                 System.out.println(name + ": " + index.ended());
             }

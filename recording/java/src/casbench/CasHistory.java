@@ -334,6 +334,11 @@ public final class CasHistory implements AutoCloseable {
             return number >= 0;
         }
 
+        /** Whether the call has no ending yet. */
+        public boolean isOpen() {
+            return ended == 0;
+        }
+
         /** The number that the write writes, in the source's member {@code k}: an unsigned long. */
         public long value() {
             return value;

@@ -1,5 +1,6 @@
 package casbench;
 
+import java.io.UncheckedIOException;
 import java.nio.charset.StandardCharsets;
 import java.security.MessageDigest;
 import java.security.NoSuchAlgorithmException;
@@ -58,7 +59,7 @@ public final class RecordingClient extends FilterClient {
     private final Index index;
     private final String node;
 
-    /** A client that asks through another one, which is of this node. */
+    /** A client that asks through another one, which is of this node; null if that isn't known. */
     public RecordingClient(Client in, Index index, String node) {
         super(in);
         this.index = index;
@@ -131,8 +132,10 @@ public final class RecordingClient extends FilterClient {
             }
             try {
                 ask(action, request, node, parts);
-            } catch (Untellable | RuntimeException why) {
+            } catch (Untellable why) {
                 end(why.getMessage());
+            } catch (RuntimeException why) {
+                end("a request can't be recorded: " + why);
             }
             return parts;
         }
@@ -176,8 +179,7 @@ public final class RecordingClient extends FilterClient {
             tellable(request.id() != null, "a write has no id, so the document's is known too late");
             tellable(hasOneShard || request.routing() == null, "a write has a routing, so its shard isn't known");
             CasHistory.Op op = opOf(request);
-            CasHistory.Operation operation = new CasHistory.Operation(op, request.id());
-            operation.shard(shardOf.applyAsInt(request.id())).node(node);
+            CasHistory.Operation operation = operation(op, request.id(), node);
             // (a create takes no condition, and a request that has one is refused by its validation)
             if (op != CasHistory.Op.CREATE) {
                 operation.condition(request.ifSeqNo(), request.ifPrimaryTerm());
@@ -227,8 +229,12 @@ public final class RecordingClient extends FilterClient {
             if (!names.contains(index) || !isLatest || !hasOneShard && routing != null) {
                 return null;
             }
-            CasHistory.Operation operation = new CasHistory.Operation(CasHistory.Op.GET, id).shard(shardOf.applyAsInt(id)).node(node);
-            return new Part(history.call(operation), id, CasHistory.Op.GET, false, true, isWhole);
+            return new Part(history.call(operation(CasHistory.Op.GET, id, node)), id, CasHistory.Op.GET, false, true, isWhole);
+        }
+
+        private CasHistory.Operation operation(CasHistory.Op op, String id, String node) {
+            CasHistory.Operation operation = new CasHistory.Operation(op, id).shard(shardOf.applyAsInt(id));
+            return node == null ? operation : operation.node(node);
         }
 
         private static boolean isLatest(String preference) {
@@ -248,14 +254,19 @@ public final class RecordingClient extends FilterClient {
             return isAny && request.versionType() == VersionType.INTERNAL;
         }
 
-        /** Ends the recording: what is open is lost first. */
+        /** Ends the recording: what is open is lost first, and only then may a request pass without a line. */
         private synchronized void end(String why) {
-            if (ended == null) {
-                history.note("the recording ends: " + why);
-                ended = why;
-                System.err.println("casbench: the recording ends, since " + why);
+            if (ended != null) {
+                return;
             }
-            history.close();
+            history.note("the recording ends: " + why);
+            try {
+                history.close();
+            } catch (UncheckedIOException fault) {
+                // (who closes the history, or has it judged, is told)
+            }
+            ended = why;
+            System.err.println("casbench: the recording ends, since " + why);
         }
 
         // Answers
@@ -380,8 +391,9 @@ public final class RecordingClient extends FilterClient {
             this.isWhole = isWhole;
         }
 
+        /** Ends the call as unknown, unless it has its ending. */
         private static void unknown(Part part) {
-            if (part != null) {
+            if (part != null && part.call.isOpen()) {
                 part.call.unknown();
             }
         }
@@ -389,6 +401,9 @@ public final class RecordingClient extends FilterClient {
         /** Ends the call by an exception: a conflict, a refusal that proves that nothing was performed, or else unknown. */
         private void failed(Exception fault) {
             Throwable cause = ExceptionsHelper.unwrapCause(fault);
+            if (!call.isOpen()) {
+                return;
+            }
             if (op != CasHistory.Op.GET && isSure && cause instanceof VersionConflictEngineException) {
                 call.conflict();
             } else if (op != CasHistory.Op.GET && isRefusal(cause)) {
