@@ -38,7 +38,7 @@ SECONDS, DETECTION = 180, 30
 
 def dry_run(program, out, *words):
     """The status of a dry run, and what it prints."""
-    command = [EXAMPLE / "try", "--dry-run", "--program", program, "--seconds", "3", "--divide", "40", *words, out]
+    command = [sys.executable, EXAMPLE / "try", "--dry-run", "--program", program, "--seconds", "3", "--divide", "40", *words, out]
     ran = subprocess.run(command, env=environment(), stdin=subprocess.DEVNULL, stdout=subprocess.PIPE, stderr=subprocess.STDOUT, text=True, timeout=120)
     return ran.returncode, ran.stdout
 
@@ -169,7 +169,7 @@ echo "$*" >>"$FAKE/asked"
 case "$*" in
 *" up -d")
     if [ "$SECURITY_OFF" = true ]; then set --; else set -- --certificate "$CERTIFICATE"; fi
-    python3 -m casbench_recording.stand_in --port "$PORT_1" --nodes 3 --replicas 2 "$@" >/dev/null 2>&1 &
+    "$PYTHON" -m casbench_recording.stand_in --port "$PORT_1" --nodes 3 --replicas 2 "$@" >/dev/null 2>&1 &
     echo $! >"$FAKE/pid" ;;
 *" down --volumes") kill "$(cat "$FAKE/pid")" ;;
 cp*) cp "$CERTIFICATE" "$3" ;;
@@ -186,8 +186,9 @@ class OnDocker(ProgramTest):
             fake = pathlib.Path(folder)
             (fake / "docker").write_text(DOCKER)
             (fake / "docker").chmod(0o755)
-            more = {"PATH": f"{fake}{os.pathsep}{os.environ['PATH']}", "FAKE": folder, "CERTIFICATE": str(CERTIFICATE), **more}
-            command = [EXAMPLE / "try", "--program", self.program, "--seconds", "3", "--divide", "40", *words, "--port", str(free_row(3)), fake / "out"]
+            more = {"PATH": f"{fake}{os.pathsep}{os.environ['PATH']}", "FAKE": folder, "CERTIFICATE": CERTIFICATE, "PYTHON": sys.executable, **more}
+            command = [sys.executable, EXAMPLE / "try", "--program", self.program, "--seconds", "3", "--divide", "40"]
+            command += [*words, "--port", str(free_row(3)), fake / "out"]
             how = {"stdin": subprocess.DEVNULL, "stdout": subprocess.PIPE, "stderr": subprocess.STDOUT, "text": True, "timeout": 120}
             ran = subprocess.run(command, env=environment(**more), **how)
             asked = fake / "asked"
