@@ -367,8 +367,8 @@ class Examples(JavaTest):
         self.java("casbench.examples.Demonstration", file, fault)
         self.assertEqual(judged(self.program, file).split()[0], wanted)
 
-    def check_on_map(self, fault, wanted):
-        said = self.java("OnMap", self.folder / f"{fault}-on-map", fault, program=self.program)
+    def check_on_map(self, name, fault, wanted, *options):
+        said = self.java(name, self.folder / f"{fault}-{name}", fault, *options, program=self.program)
         self.assertRegex(said, wanted)
 
     def test_demonstration(self):
@@ -377,8 +377,15 @@ class Examples(JavaTest):
 
     def test_of_a_cluster(self):
         """The example of OpenSearch's own test, whose clients lose answers, checked as OpenSearch is."""
-        rows = [(it, self.check_on_map, it, "^failed: casbench check .*: refuted\n") for it in FAULTS]
-        rows.append(("right", self.check_on_map, "NONE", "^passed\n$"))
+        rows = [(it, self.check_on_map, "OnMap", it, "^failed: casbench check .*: refuted\n") for it in FAULTS]
+        rows.append(("right", self.check_on_map, "OnMap", "NONE", "^passed\n$"))
+        self.run_subtests(lambda check, *words: check(*words), rows, workers=2)
+
+    def test_of_all_requests(self):
+        """The recording client, with updates by a part, bulk and multi-get too, whose answers may be lost."""
+        profile = ("--profile", "opensearch")
+        rows = [(it, self.check_on_map, "Mixed", it, "^failed: casbench check .*: refuted\n", *profile) for it in FAULTS]
+        rows += [("right", self.check_on_map, "Mixed", "NONE", "^passed\n$", *profile)]
         self.run_subtests(lambda check, *words: check(*words), rows, workers=2)
 
     def test_junit(self):
