@@ -32,7 +32,7 @@ CONSOLE = [JARS / f"{it}.jar" for it in ("junit-jupiter-api", "junit-jupiter-eng
 CONSOLE += [JARS / f"{it}.jar" for it in ("junit-platform-console", "junit-platform-engine", "junit-platform-launcher")]
 CONSOLE += [JARS / f"{it}.jar" for it in ("junit-platform-reporting", "opentest4j", "opentest4j-reporting-events", "apiguardian-api", "picocli")]
 
-CALLS, CALLS_A_SECOND, MOST_SECONDS = 524_288, 1_000_000, 25
+CALLS, CALLS_A_SECOND, MOST_SECONDS = 524_288, 1_000_000, 40
 """How many calls the load makes, how many a second it has to record, and how long it may try, beside what else the machine does."""
 
 SECONDS = 120
@@ -290,6 +290,23 @@ class Verdicts(JavaTest):
         self.assertRegex(self.said("yes", program="/no/such/program"), "^failed: casbench can't be run: ")
         os.symlink(self.program, empty / "casbench")
         self.assertRegex(ran(words[:5] + [str(self.file) + "2", "--profile", "opensearch"], env=environment)[1], "^failed: ")
+
+
+    def test_where_no_process_may_be_started(self):
+        """Under a security manager, as tests of OpenSearch 2.x, the history is left, and a line says how to check it."""
+        policy = self.folder / "policy"
+        files = 'permission java.io.FilePermission "<<ALL FILES>>", "read,write,delete";'
+        for more in ("", 'permission java.util.PropertyPermission "*", "read"; permission java.lang.RuntimePermission "getenv.*";'):
+            policy.write_text(f"grant {{ {files} {more} }};")
+            file = self.folder / f"h{len(more)}.ndjson"
+            words = self.words("Cases", "stale", file, "--profile", "opensearch", program=self.program)
+            status, said = ran([words[0], "-Djava.security.manager=default", f"-Djava.security.policy=={policy}", *words[1:]])
+            if "ecurity manager" in said.lower() and status:
+                self.skipTest("this Java has no security manager, so nothing was run under one")
+            with self.subTest(more):
+                self.assertEqual(status, 0, said)
+                self.assertRegex(said, r"so nothing was judged\. To check: casbench check --profile opensearch --rule-out .*\npassed\n$")
+                self.assertEqual(len(events_of(file)), 6)
 
 
 # How the calls of a recording client end, by the row of tests/java/Clients.java.
