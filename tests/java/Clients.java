@@ -224,6 +224,10 @@ public final class Clients {
         ));
         row("bulk-short", BulkAction.INSTANCE, bulk(), new BulkResponse());
         row("bulk-refused", BulkAction.INSTANCE, bulk(), COORDINATOR);
+        row("bulk-refused-of-one-shard", BulkAction.INSTANCE, new BulkRequest().add(index()).add(update()), COORDINATOR);
+        begin("bulk-refused-of-shards");
+        index = new RecordingClient.Index(history, id -> 5, "carts");
+        ask(BulkAction.INSTANCE, new BulkRequest().add(index()).add(update()), COORDINATOR);
         row("bulk-fails", BulkAction.INSTANCE, bulk(), new OpenSearchException("timeout"));
     }
 

@@ -142,12 +142,13 @@ public final class RecordingClient extends FilterClient {
 
         private void ask(String action, ActionRequest request, String node, List<Part> parts) throws Untellable {
             if (request instanceof DocWriteRequest) {
-                parts.add(write((DocWriteRequest<?>) request, node, true));
+                parts.add(write((DocWriteRequest<?>) request, node, request instanceof UpdateRequest));
             } else if (request instanceof BulkRequest) {
                 BulkRequest bulk = (BulkRequest) request;
                 tellable(hasNoPipeline(bulk.pipeline()) || names(bulk).stream().noneMatch(names::contains), "a bulk request has a pipeline");
+                boolean isOfOneShard = hasOneShard && names.containsAll(names(bulk));
                 for (DocWriteRequest<?> item : bulk.requests()) {
-                    parts.add(write(item, node, false));
+                    parts.add(write(item, node, !isOfOneShard));
                 }
             } else if (request instanceof GetRequest) {
                 GetRequest get = (GetRequest) request;
@@ -172,7 +173,7 @@ public final class RecordingClient extends FilterClient {
             return names;
         }
 
-        private Part write(DocWriteRequest<?> request, String node, boolean isAlone) throws Untellable {
+        private Part write(DocWriteRequest<?> request, String node, boolean mayHaveBegun) throws Untellable {
             if (!names.contains(request.index())) {
                 return null;
             }
@@ -190,7 +191,7 @@ public final class RecordingClient extends FilterClient {
             boolean isUpdate = request instanceof UpdateRequest;
             boolean hasCondition = request.ifPrimaryTerm() != CasHistory.NO_PRIMARY_TERM;
             boolean isSure = hasPlainVersion(request) && (!isUpdate || hasCondition);
-            return new Part(history.call(operation), request.id(), op, isUpdate && isAlone, isSure, false);
+            return new Part(history.call(operation), request.id(), op, mayHaveBegun, isSure, false);
         }
 
         private static CasHistory.Op opOf(DocWriteRequest<?> request) {
@@ -378,15 +379,15 @@ public final class RecordingClient extends FilterClient {
         private final CasHistory.Call call;
         private final String id;
         private final CasHistory.Op op;
-        private final boolean isHandedOn;
+        private final boolean mayHaveBegun;
         private final boolean isSure;
         private final boolean isWhole;
 
-        private Part(CasHistory.Call call, String id, CasHistory.Op op, boolean isHandedOn, boolean isSure, boolean isWhole) {
+        private Part(CasHistory.Call call, String id, CasHistory.Op op, boolean mayHaveBegun, boolean isSure, boolean isWhole) {
             this.call = call;
             this.id = id;
             this.op = op;
-            this.isHandedOn = isHandedOn;
+            this.mayHaveBegun = mayHaveBegun;
             this.isSure = isSure;
             this.isWhole = isWhole;
         }
@@ -415,11 +416,12 @@ public final class RecordingClient extends FilterClient {
 
         /**
          * Whether the exception comes before any attempt, or to each attempt alike. The node that coordinates a request may send it again
-         * after a connection broke; an update by itself is handed on to the primary's node, which may reject a later attempt.
+         * after a connection broke. It may reject what it has begun: an update by itself is handed on to the primary's node, which may reject a
+         * later attempt; and a bulk request is sent shard by shard, of which a later one may be rejected, and with it the whole.
          */
         private boolean isRefusal(Throwable cause) {
             if (cause instanceof OpenSearchRejectedExecutionException) {
-                return !isHandedOn && String.valueOf(cause.getMessage()).startsWith(BY_COORDINATOR);
+                return !mayHaveBegun && String.valueOf(cause.getMessage()).startsWith(BY_COORDINATOR);
             }
             return cause instanceof ActionRequestValidationException
                 || cause instanceof MapperParsingException
