@@ -95,10 +95,10 @@ class VerdictTest(FolderTest):
             text = printed if isinstance(printed, str) else json.dumps(printed)
             (self.parts / f"{name}.ndjson.verdict").write_text(f"{text}\n{status}\n")
 
-    def together(self, *options):
+    def together(self, *options, **more):
         """The status of the verdicts together, and what is printed of them."""
         words = [sys.executable, "-m", "casbench_recording.verdicts", self.parts, *options]
-        ran = subprocess.run(words, env=environment(), capture_output=True, text=True, timeout=60)
+        ran = subprocess.run(words, env=environment(**more), capture_output=True, text=True, timeout=60)
         return ran.returncode, ran.stdout.splitlines() or ran.stderr.splitlines()
 
 
@@ -160,6 +160,12 @@ class Together(VerdictTest):
         os.utime(self.parts / "b.ndjson.verdict", (1, 1))
         self.assertEqual(self.together(), (4, ["b.ndjson: its verdict is older than the history", "not judged: of 2 histories 1 not judged, 1 yes"]))
 
+    def test_a_name_that_is_no_text(self):
+        """It is written with escapes, and the status is still that of the verdicts."""
+        self.put("\udcff", None, 0)
+        status, lines = self.together(PYTHONIOENCODING="utf-8:strict")
+        self.assertEqual((status, lines[0].partition(":")[0], lines[-1]), (4, "\\udcff.ndjson", "not judged: of 1 histories 1 not judged"))
+
     def test_what_cannot_be_put_together(self):
         self.assertEqual(self.together(), (4, ["not judged: there is no history"]))
         self.put("a", yes(10), 0)
@@ -180,8 +186,10 @@ class Jobs(VerdictTest):
         return judged(self.program, self.file, "--rule-out")
 
     def jobs(self, *options):
-        """Runs the script for each part; the statuses."""
-        script = [MACHINES / "judge-one.sh", self.parts]
+        """Runs the script for each part, in a folder that a link names; the statuses."""
+        link = self.parts.with_name("link")
+        link.symlink_to(self.parts)
+        script = [MACHINES / "judge-one.sh", link]
         how = {"env": environment(CASBENCH=str(self.program)), "stderr": subprocess.DEVNULL}
         return [subprocess.run([*script, str(at), *options], **how).returncode for at in range(SHARDS)]
 

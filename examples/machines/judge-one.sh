@@ -10,7 +10,7 @@ set -u
 folder=$1
 index=$2
 shift 2
-history=$(find "$folder" -maxdepth 1 -name '*.ndjson' | LC_ALL=C sort | sed -n "$((index + 1))p")
+history=$(find "$folder/" -maxdepth 1 -name '*.ndjson' | LC_ALL=C sort | sed -n "$((index + 1))p")
 if [ -z "$history" ]; then
     echo "judge-one.sh: $folder has no history $index" >&2
     exit 4

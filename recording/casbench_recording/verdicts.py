@@ -132,6 +132,7 @@ def main() -> int:
     parser.add_argument("folder", metavar="DIR", help="the folder of the histories, *.ndjson, and of their verdicts, *.ndjson.verdict")
     parser.add_argument("--at-least", type=int, default=0, metavar="CALLS", help="of all histories together; a yes with fewer has status 6")
     options = parser.parse_args()
+    sys.stdout.reconfigure(errors="backslashreplace")  # type: ignore[attr-defined]
     try:
         verdicts = [verdict_of(it) for it in histories_of(options.folder)]
     except OSError as fault:
