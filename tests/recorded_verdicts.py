@@ -150,6 +150,7 @@ class Together(VerdictTest):
     def test_what_was_not_judged(self):
         """A history without a verdict, with half of one, one that isn't of this status, one of another kind, and one that is too old."""
         rows = [(None, 0), ("", 0), (NO, 0), (yes(1), 1), ('{"answer":"yes"}', 0), ("[]", 0), (yes(1), 64), (yes(1), 137), (yes(1), "x"), (yes(1), "")]
+        rows += [(yes("x"), 0), ("[" * 100_000, 0)]
         for at, (printed, status) in enumerate(rows):
             with self.subTest(f"{printed}, {status}"):
                 self.put("a", yes(10), 0)

@@ -89,7 +89,8 @@ def answer_of(status: int, printed: Sequence[str]) -> Optional[Dict[str, Any]]:
         word = answer["answer"]
         needed = answer["counts"] if word == "yes" else answer
         is_whole = all(it in needed for it in (COUNTS[:3] if word == "yes" else MEMBERS[word]))
-    except (ValueError, KeyError, TypeError):
+        is_whole = is_whole and (word != "yes" or all(isinstance(it, int) for it in counts_of(answer).values()))
+    except (ValueError, KeyError, TypeError, RecursionError):
         return None
     return answer if word in ANSWERS.get(status, ()) and is_whole else None
 
