@@ -27,7 +27,7 @@ import org.opensearch.core.action.ActionListener;
 import org.opensearch.core.action.ActionResponse;
 
 /**
- * Conditional writes by several threads, through the clients of all nodes, while the cluster is disrupted: the idea of OpenSearch's
+ * Conditional writes by several threads, through the clients of several nodes, while the cluster is disrupted: the idea of OpenSearch's
  * {@code ConcurrentSeqNoVersioningIT}. There each thread writes documents of its own and a checker in the test judges writes alone. Here
  * threads share documents, and gets, creates and deletes are judged too.
  *
@@ -36,7 +36,10 @@ import org.opensearch.core.action.ActionResponse;
 public final class ConcurrentVersionedWritesIT {
     /** What the test needs of a cluster. */
     public interface Cluster {
-        /** A client of each node. */
+        /**
+         * A client of each node that no disruption cuts off from the others or stops. Such a node may answer gets with old versions, as
+         * OpenSearch documents, and the profile refutes that.
+         */
         List<Client> clients();
 
         /** Begins a disruption and ends it, and returns when the cluster is whole again. */
