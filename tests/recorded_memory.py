@@ -1,5 +1,6 @@
 #!/usr/bin/env python3
-"""Tests that a recording without end keeps a bounded number of documents, and what becomes of those that it gives up.
+"""Tests that a recording without end keeps a bounded number of documents, what becomes of those that it gives up, and that connections
+which ended take no memory.
 
     python3 tests/recorded_memory.py [PROGRAM]
 
@@ -12,10 +13,11 @@ import pathlib
 import sys
 import unittest
 
+from attacks import Client
 from measure_parts import Turns, memory
 from program_test import run_tests
 from recorded_requests import JudgeTest, found, missing, written
-from recorded_through_proxy import ProxyTest
+from recorded_through_proxy import CERTIFICATE, ProxyTest
 from recordings import judged
 
 from casbench_recording.continuing import Continuing
@@ -28,6 +30,9 @@ BEFORE, THEN, MOST_GROWN = 10_000, 10_000, 3_000_000
 
 # How many documents are asked for at once.
 AT_ONCE = 500
+
+# By how many bytes the memory may grow with connections: of each the address is remembered.
+MOST_GROWN_BY_CONNECTIONS = 1_500_000
 
 
 class GivenUp(ProxyTest):
@@ -82,6 +87,34 @@ class Missed(ProxyTest):
             grown.append(memory(proxy.process.pid))
         self.assertLess(grown[1] - grown[0], MOST_GROWN)
         self.assertIn(f", {BEFORE + THEN} calls; not judged: 0 documents, 0 calls", proxy.ended())
+
+
+class Ended(ProxyTest):
+    """Connections that ended. What refers to itself would be kept until the garbage collector comes, which is seldom."""
+
+    def check_memory(self, proxy, status, before, then):
+        """Holds the memory that more connections take behind the first ones, on each of which a request gets this status."""
+        grown = []
+        for count in (before, then):
+            for _ in range(count):
+                with Client(proxy.port) as client:
+                    self.assertEqual(client.ask(b"GET /carts/_doc/d HTTP/1.1\r\nHost: x\r\n\r\n")[0], status)
+            grown.append(memory(proxy.process.pid))
+        self.assertLess(grown[1] - grown[0], MOST_GROWN_BY_CONNECTIONS)
+
+    def test_clients_that_come_and_go(self):
+        self.check_memory(self.proxy(self.stand_in().url), 404, 1_000, 2_000)
+
+    def test_clients_of_a_cluster_that_is_gone(self):
+        other = self.stand_in()
+        proxy = self.proxy(other.url)
+        other.process.kill()
+        other.process.wait()
+        self.check_memory(proxy, 502, 1_000, 2_000)
+
+    def test_clients_of_a_cluster_behind_tls(self):
+        other = self.started("stand_in", "--port", "0", "--certificate", CERTIFICATE)
+        self.check_memory(self.proxy(other.url, "--ca-file", CERTIFICATE), 404, 100, 100)
 
 
 class Kept(JudgeTest):

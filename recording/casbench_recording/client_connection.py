@@ -199,3 +199,5 @@ class ClientConnection:
         self.held = 0
         self.give_up()
         self.close()
+        # (what refers to itself would wait for the garbage collector, which comes seldom)
+        self.connecting = self.cluster = None

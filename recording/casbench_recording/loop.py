@@ -429,3 +429,5 @@ class Stream:
             self._socket.close()
             self._loop.has_room()
             self._loop.soon(self.user.connection_lost)
+            # (which refers to this stream; it hears nothing else any more)
+            del self.user

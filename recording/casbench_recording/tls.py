@@ -145,3 +145,5 @@ class TlsStream:
         self._tell(ConnectionResetError("the connection was closed before it was encrypted"))
         if self._is_ready:
             self.user.connection_lost()
+        # (which refers to this stream; it hears nothing any more)
+        del self.user
