@@ -35,7 +35,7 @@ from typing import NamedTuple, Sequence
 
 from attacks import megabytes
 from cluster_application import Application, Load
-from recorded_cluster import FAULTS, NODES, READS, WRITES, addresses
+from recorded_cluster import FAULTS, NODES, READS, WRITES
 from recordings import Started
 
 # How many calls a part has; how long what was asked of a proxy that is killed may last, in seconds; how long nginx waits for an answer; how many
@@ -84,24 +84,6 @@ PHASES = [
     faulty("lagging-copy, kill", "--fault lagging-copy --every 300 --kill-every 15 --lasting 2"),
     Phase("kill", f"--lag 0.05 {KILL}", 0.3),
 ]
-
-
-class Said:
-    """What a stream says: its lines, each with the moment at which it came."""
-
-    def __init__(self, stream):
-        self.lines = []
-        self.thread = threading.Thread(target=self.read, args=(stream,), daemon=True)
-        self.thread.start()
-
-    def read(self, stream):
-        with contextlib.suppress(ValueError):
-            for line in stream:
-                self.lines.append((time.time(), line.rstrip("\n")))
-
-    def first(self, pattern):
-        """The first line that begins with a pattern, with its moment, or None."""
-        return next((it for it in list(self.lines) if re.match(pattern, it[1])), None)
 
 
 def free_ports(count):
@@ -182,8 +164,8 @@ class Recording:
         self.proxy = Started("proxy", "--listen", first, "--cluster", nodes[0], *more, "--index", "carts", *watch, *words, str(out))
         if self.proxy.port is None:
             raise AssertionError(f"the proxy doesn't start: {self.proxy.url}")
-        addresses(self.proxy, len(others))
-        self.printed, self.told = Said(self.proxy.process.stdout), Said(self.proxy.process.stderr)
+        self.proxy.addresses(len(others))
+        self.printed, self.told = self.proxy.printed, self.proxy.told
         # how much memory the proxy takes behind so many requests, in MiB
         self.began, self.ended, self.memory = time.monotonic(), None, []
         self.is_killed = False
@@ -207,7 +189,7 @@ class Recording:
         self.proxy.process.wait(timeout=120)
         for it in (self.printed, self.told):
             it.thread.join(60)
-        return [line for _, line in [*self.told.lines, *self.printed.lines] if not line.startswith("part-")][-12:]
+        return [line.rstrip("\n") for _, line in [*self.told.lines, *self.printed.lines] if not line.startswith("part-")][-12:]
 
     def kill(self):
         """Kills the proxy at once."""
@@ -282,8 +264,7 @@ class Soak:
     def run_phase(self, phase):
         """Runs a phase, whose recordings become rows."""
         with Started("stand_in", "--port", "0", "--nodes", str(NODES), "--replicas", str(NODES - 1), *phase.words.split()) as store:
-            nodes = [store.url, *addresses(store, NODES - 1)]
-            Said(store.process.stderr)
+            nodes = [store.url, *store.addresses(NODES - 1)]
             store.make("carts")
             load = phase.load._replace(readers=(int(phase.reads_the_first),), writers=(0,))
             application = Application([self.nginx.all, self.nginx.first], load, phase.name)

@@ -198,7 +198,7 @@ class Attacked(AttackTest):
                 self.made += sum(it.result() for it in runs)
                 left = self.left(proxy, before)
             seconds, taken, status = end_of(proxy)
-            said = proxy.process.stderr.read()
+            said = proxy.told.read()
         # (what isn't known of a request that is made up may end the recording, which is said)
         self.assertEqual(status, 3 if "the recording ended early: " in said else 0)
         self.assertLess(taken, 1.0)

@@ -445,7 +445,7 @@ class Files(AttackTest):
             with self.client(proxy) as client:
                 client.ask(request_of("PUT", "/carts/_doc/d", b"{}"))
                 do()
-                at_once = bool(select.select([proxy.process.stderr], [], [], 5)[0])
+                at_once = proxy.told.has_line(5)
                 self.assertEqual(client.ask(request_of("PUT", "/carts/_doc/e", b"{}"))[0], 201)
             said = proxy.ended()
             return said, proxy.process.returncode, at_once

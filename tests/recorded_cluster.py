@@ -101,12 +101,12 @@ class Recorded:
         self.stack = contextlib.ExitStack()
         words = ["--port", "0", "--nodes", str(NODES), "--replicas", str(NODES - 1), *words]
         self.store = self.stack.enter_context(Started("stand_in", *words))
-        first, *others = [self.store.url, *addresses(self.store, NODES - 1)]
+        first, *others = [self.store.url, *self.store.addresses(NODES - 1)]
         self.store.make("carts")
         nodes = [it for url in others for it in ("--node", f"127.0.0.1:0={url}")]
         arguments = ["--listen", "127.0.0.1:0", "--cluster", first, *nodes, "--index", "carts", file]
         self.proxy = self.started_proxy(arguments)
-        self.urls = [self.proxy.url, *addresses(self.proxy, NODES - 1)]
+        self.urls = [self.proxy.url, *self.proxy.addresses(NODES - 1)]
 
     def __enter__(self):
         return self
@@ -125,11 +125,6 @@ class Recorded:
     @property
     def ports(self):
         return [int(it.rpartition(":")[2]) for it in self.urls]
-
-
-def addresses(command, count):
-    """The further addresses that a command says."""
-    return [command.process.stderr.readline().strip() for _ in range(count)]
 
 
 def record(row, file, seed):

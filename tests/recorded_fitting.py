@@ -113,7 +113,7 @@ class Proxies(ProxyTest, WatchTest):
         for settings, how in (({"number_of_replicas": 2}, "2 replicas, with document"), ({"number_of_replicas": 1, "replication.type": "SEGMENT"}, "1 replica, with segment")):
             with self.subTest(how):
                 proxy = self.proxy(self.stand_in(settings=settings).url)
-                self.assertEqual(proxy.process.stderr.readline(), f"casbench_recording.proxy: the index carts has {how} replication: {FITS} {self.file}\n")
+                self.assertEqual(proxy.told.readline(), f"casbench_recording.proxy: the index carts has {how} replication: {FITS} {self.file}\n")
                 self.put(proxy)
                 self.assertTrue(proxy.ended().endswith(f"\nthe check that fits: {FITS.partition(' is ')[2]} {self.file}"))
                 os.remove(self.file)
@@ -135,7 +135,7 @@ class Proxies(ProxyTest, WatchTest):
                 with self.subTest("made"):
                     asked = self.asker(proxy).ask("PUT", "/carts", {"settings": {"number_of_replicas": "1"}})
                     self.assertEqual(asked[0], 200)
-                    self.assertIn(f"{FITS} {self.file}/*.ndjson\n", proxy.process.stderr.readline())
+                    self.assertIn(f"{FITS} {self.file}/*.ndjson\n", proxy.told.readline())
                 self.put(proxy)
                 own = wanted.words()
                 self.wait_for(lambda proxy=proxy, own=own: self.watch_words(proxy)[-2 - len(own) : -2] == own if own else self.watch_words(proxy))

@@ -22,7 +22,7 @@ class Nodes(FolderTest):
         """A command that serves two addresses, and runs until the test ends; both addresses."""
         command = Started(*words)
         self.addCleanup(command.__exit__)
-        return command, command.url, command.process.stderr.readline().strip()
+        return command, command.url, *command.addresses(1)
 
     def record(self, *words):
         """Runs the load of the recorder to its end."""

@@ -339,9 +339,9 @@ class Nodes(ProxyTest):
 
     def test_nodes(self):
         with self.started("stand_in", "--port", "0", "--lagging-node", "0") as first:
-            nodes = [first.url, first.process.stderr.readline().strip()]
+            nodes = [first.url, *first.addresses(1)]
             proxy = self.proxy(nodes[0], "--node", f"127.0.0.1:0={nodes[1]}")
-            addresses = [proxy.url, proxy.process.stderr.readline().strip()]
+            addresses = [proxy.url, *proxy.addresses(1)]
             for at, asked in enumerate(addresses):
                 bulk = b'{"index":{"_id":"b"}}\n{}\n'
                 with Asker(int(asked.rpartition(":")[2])) as asker:

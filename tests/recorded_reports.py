@@ -13,7 +13,6 @@ import json
 import os
 import pty
 import re
-import select
 import signal
 import socket
 import subprocess
@@ -23,6 +22,15 @@ from program_test import run_tests
 from recordings import FolderTest, Started, environment
 
 ENDED = "casbench_recording.proxy: the recording ended early: "
+
+# A command that says much on both outputs behind its address, more than a pipe holds.
+MUCH = """
+import sys
+print("http://127.0.0.1:9", file=sys.stderr)
+for stream in (sys.stderr, sys.stdout):
+    print("x" * 99, file=stream, flush=True)
+    stream.write(("y" * 99 + "\\n") * 10_000)
+"""
 
 
 def limited(module, events):
@@ -62,7 +70,19 @@ class ReportTest(FolderTest):
 
     def reported(self, proxy):
         """The next line on standard error, if there is one within some seconds; else nothing."""
-        return proxy.process.stderr.readline().strip() if select.select([proxy.process.stderr], [], [], 10)[0] else ""
+        return proxy.told.readline(10).strip()
+
+
+class Much(ReportTest):
+    """What these tests start."""
+
+    def test_a_command_that_says_much(self):
+        """It doesn't wait until somebody takes what it says."""
+        command = self.started("much", start=(sys.executable, "-c", MUCH))
+        self.assertEqual(command.process.wait(60), 0)
+        self.assertEqual((command.port, command.told.readline()), (9, "x" * 99 + "\n"))
+        self.assertEqual(command.said(), ("x" * 99 + "\n" + ("y" * 99 + "\n") * 10_000, ("y" * 99 + "\n") * 10_000))
+        self.assertEqual((command.told.readline(), command.told.readline(0.1)), ("", ""))
 
 
 class EarlyEnds(ReportTest):

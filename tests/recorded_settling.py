@@ -89,13 +89,13 @@ class InFlight(ProxyTest):
                 sender.join()
             second = self.proxy(cluster.url, "--created-only", *words)
             if seconds:
-                self.assertEqual(second.process.stderr.readline(), waits(seconds))
+                self.assertEqual(second.told.readline(), waits(seconds))
             with Asker(second.port) as asker:
                 statuses = [asker.ask("GET", "/carts/_doc/late")[0]]
                 cluster.is_released.set()
                 cluster.is_over.wait(60)
                 if seconds:
-                    self.assertEqual(second.process.stderr.readline(), BEGINS)
+                    self.assertEqual(second.told.readline(), BEGINS)
                 statuses += [asker.ask("GET", "/carts/_doc/late")[0], asker.ask("PUT", "/carts/_doc/new", {})[0]]
             self.assertEqual(statuses, [404, 200, 201])
             return second.ended()
@@ -126,12 +126,12 @@ class Settling(ProxyTest):
         for words, ids in ((["--created-only"], {"read", "new", "old"}), (["--documents", "new,written,read"], {"read", "new"})):
             with self.subTest(words):
                 proxy = self.proxy(other.url, *words, "--settle", "2")
-                self.assertEqual(proxy.process.stderr.readline(), waits(2))
+                self.assertEqual(proxy.told.readline(), waits(2))
                 asker, bulk = self.asker(proxy), b'{"index":{"_id":"written"}}\n{}\n'
                 self.assertEqual(asker.ask("GET", "/carts/_doc/read")[0], 404)
                 self.assertEqual(asker.ask("POST", "/carts/_bulk", bulk)[0], 200)
                 self.assertEqual(os.path.getsize(self.file), 0)
-                self.assertEqual(proxy.process.stderr.readline(), BEGINS)
+                self.assertEqual(proxy.told.readline(), BEGINS)
                 for id in ("read", "new", "written", "old"):
                     asker.ask("GET", f"/carts/_doc/{id}")
                     asker.ask("PUT", f"/carts/_doc/{id}", {})
@@ -160,7 +160,7 @@ class Settling(ProxyTest):
         plan.write_text(f"after 0.5 s: touch {mark}\n")
         began = time.time()
         proxy = self.proxy(other.url, "--created-only", "--settle", "2", "--disturb", str(plan))
-        self.assertEqual([proxy.process.stderr.readline() for _ in range(2)], [waits(2), BEGINS])
+        self.assertEqual([proxy.told.readline() for _ in range(2)], [waits(2), BEGINS])
         while not mark.exists():
             self.assertLess(time.time(), began + 60)
             time.sleep(0.05)

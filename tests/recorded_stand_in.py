@@ -32,7 +32,7 @@ class StandInTest(ProgramTest):
         """A stand-in with the index carts, which runs until the test ends; a client for each node."""
         command = Started("stand_in", "--port", port, "--nodes", str(NODES), "--replicas", str(replicas), *words)
         self.addCleanup(command.__exit__)
-        self.urls = [command.url, *(command.process.stderr.readline().strip() for _ in range(NODES - 1))]
+        self.urls = [command.url, *command.addresses(NODES - 1)]
         command.make("carts")
         return [self.asker(it) for it in range(NODES)]
 

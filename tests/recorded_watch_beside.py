@@ -108,11 +108,11 @@ class Beside(WatchTest):
                 self.wait_for(lambda proxy=proxy: self.watch_of(proxy.process))
                 first = self.watch_of(proxy.process)
                 os.kill(first, sent)
-                told = proxy.process.stderr.readline()
+                told = proxy.told.readline()
                 wanted = f"the watch was killed by signal {int(sent)}: the recording goes on, and the watch is started again in 1 s"
                 self.assertEqual(told, f"casbench_recording.proxy: {wanted}\n")
                 self.load(proxy, f"{sent.name}.ndjson")
-                printed, _ = proxy.process.communicate(timeout=SECONDS)
+                printed, _ = proxy.said()
                 self.assertEqual(proxy.process.returncode, 1)
                 # (a stale get that finds nothing may be proved by the answers alone)
                 self.assertRegex(printed, r"\Arefuted kind=(stale-get|ruled-out) ")
@@ -126,7 +126,7 @@ class Beside(WatchTest):
             pathlib.Path(mark).touch()
             self.assertEqual(self.load(proxy, "first.ndjson").returncode, 0)
             for wanted in (r"casbench_recording\.watch: .* ended with status -9: ", r"casbench_recording\.proxy: the watch ended with status 4: the recording goes on"):
-                self.assertRegex(proxy.process.stderr.readline(), wanted)
+                self.assertRegex(proxy.told.readline(), wanted)
             self.assertEqual(self.load(proxy, "second.ndjson", index="others").returncode, 0)
             os.remove(mark)
             printed = proxy.ended()
@@ -154,7 +154,7 @@ class Beside(WatchTest):
                 words = ["--seconds", "600", "--patience", "0", proxy.url, "carts", self.file]
                 load = [sys.executable, "-m", "casbench_recording.record", *words]
                 ran = subprocess.run(load, capture_output=True, text=True, env=environment(), timeout=SECONDS)
-                printed, fault = proxy.process.communicate(timeout=SECONDS)
+                printed, fault = proxy.said()
         self.assertEqual((ran.returncode, proxy.process.returncode), (1, 1), ran.stderr)
         self.assertIn("Connection refused", ran.stderr)
         self.assertRegex(printed, r"\A(part-\d+\.ndjson: yes .*\n)*.*/parts/part-\d+\.ndjson(\.growing)?:\nrefuted kind=")

@@ -69,7 +69,7 @@ class Example(FolderTest):
             words = self.command(other.url)
             self.assertEqual(words.count("--node"), 3)
             with Started("proxy", *words, **KNOWN) as proxy:
-                addresses = [proxy.url, *[proxy.process.stderr.readline().strip() for _ in range(3)]]
+                addresses = [proxy.url, *proxy.addresses(3)]
                 for at, address in enumerate(addresses):
                     self.assertIn(self.ask(address, "PUT", "/carts/_doc/d", json.dumps({"at": at})), (200, 201))
                     self.assertEqual(self.ask(address, "GET", "/carts/_doc/d"), 200)

@@ -5,16 +5,23 @@ It is no test itself.
 """
 
 import argparse
+import contextlib
 import json
 import os
+import re
 import signal
 import subprocess
 import sys
 import tempfile
+import threading
+import time
 import urllib.request
 
 from program import TOP
 from program_test import ProgramTest
+
+# After how many seconds a command has failed that doesn't end.
+SECONDS = 60
 
 PACKAGE = TOP / "recording"
 sys.path.insert(0, str(PACKAGE))
@@ -57,15 +64,61 @@ if signal.getsignal(signal.SIGINT) is signal.SIG_IGN:
     signal.signal(signal.SIGINT, signal.default_int_handler)
 
 
+class Said:
+    """What a stream says. It is read at once, so that nobody who writes to it has to wait; its lines are taken one by one."""
+
+    def __init__(self, stream):
+        # each with the moment at which it came; how many of them were taken; and whether there are no more
+        self.lines, self.taken, self.is_over = [], 0, False
+        self.changed = threading.Condition()
+        self.thread = threading.Thread(target=self.read_stream, args=(stream,), daemon=True)
+        self.thread.start()
+
+    def read_stream(self, stream):
+        with contextlib.suppress(ValueError), stream:
+            for line in stream:
+                with self.changed:
+                    self.lines.append((time.time(), line))
+                    self.changed.notify_all()
+        with self.changed:
+            self.is_over = True
+            self.changed.notify_all()
+
+    def has_line(self, seconds=None):
+        """Whether a line is there to be taken, or comes within these seconds, or, without them, before the end."""
+        with self.changed:
+            self.changed.wait_for(lambda: self.taken < len(self.lines) or self.is_over, seconds)
+            return self.taken < len(self.lines)
+
+    def readline(self, seconds=None):
+        """Takes the next line; empty if none comes."""
+        if not self.has_line(seconds):
+            return ""
+        self.taken += 1
+        return self.lines[self.taken - 1][1]
+
+    def read(self):
+        """Takes all lines that are left, when the stream is at its end."""
+        self.thread.join(SECONDS)
+        first, self.taken = self.taken, len(self.lines)
+        return "".join(text for _, text in self.lines[first:])
+
+    def first(self, pattern):
+        """The first line of all that begins with a pattern, with its moment, or None."""
+        return next(((moment, line.rstrip("\n")) for moment, line in list(self.lines) if re.match(pattern, line)), None)
+
+
 class Started:
     """A command of the package that listens, and runs until the block ends. The first line that it says is its
-    address."""
+    address. What it says on standard error is `told`, unless that goes elsewhere."""
 
     def __init__(self, name, *arguments, start=(), stderr=subprocess.PIPE, **more):
         command = [*(start or (sys.executable, "-m", f"casbench_recording.{name}")), *arguments]
         pipes = {"stdin": subprocess.DEVNULL, "stdout": subprocess.PIPE, "stderr": stderr}
         self.process = subprocess.Popen(command, **pipes, text=True, env=environment(**more))
-        self.url = self.process.stderr.readline().strip() if self.process.stderr else ""
+        self.printed = Said(self.process.stdout)
+        self.told = Said(self.process.stderr) if self.process.stderr else None
+        self.url = self.told.readline().strip() if self.told else ""
         self.port = int(self.url.rpartition(":")[2]) if self.url.startswith("http") else None
 
     def __enter__(self):
@@ -74,14 +127,20 @@ class Started:
     def __exit__(self, *_):
         self.process.kill()
         self.process.wait()
-        for pipe in filter(None, (self.process.stdout, self.process.stderr)):
-            pipe.close()
+
+    def addresses(self, count):
+        """The next lines on standard error: further addresses."""
+        return [self.told.readline().strip() for _ in range(count)]
+
+    def said(self):
+        """Waits for its end; what it says after its address, on each output."""
+        self.process.wait(SECONDS)
+        return self.printed.read(), self.told.read() if self.told else ""
 
     def ended(self, sent=signal.SIGTERM):
         """Ends it by a signal; what it says after its address, on both outputs."""
         self.process.send_signal(sent)
-        printed = self.process.communicate(timeout=60)
-        return "".join(filter(None, printed)).strip()
+        return "".join(self.said()).strip()
 
     def processor_time(self):
         """How many seconds of a processor it took so far."""
