@@ -7,7 +7,7 @@ from .asking import Asking
 from .bodies import MOST_READ
 from .bulk import items_of_long
 from .documents import NOT_JUDGED, UNSURE, Digest, Document, State, digest_of, is_id, object_of
-from .history import CONFLICT, Call, Ending, Loss, Pair, Reply, pair_of, text_of_find, text_of_write
+from .history import CONFLICT, Call, Ending, Loss, Pair, Reply, pair_if, pair_of, text_of_find, text_of_write
 from .ledger import Ledger
 from .routes import BULK, SWEEP, Kind
 from .told import item_status, listed, missing_by_length, readable, told_true
@@ -136,9 +136,11 @@ class Answering:
                 self._ledger.untold(part.id, "an answer told another id")
                 self._ledger.untold(str(body["_id"]), "an answer told this id, and another one was asked for")
                 body = None
-            pair = pair_of(body)
-            ending = self._reply(part, document, status, body, pair) if body is not None else Loss.UNKNOWN
-            self._end(part, ending, status, body or {}, pair)
+            if body is None:
+                self._end(part, Loss.UNKNOWN, status, {}, None)
+            else:
+                pair = pair_if(body.get("_primary_term"), body.get("_seq_no"))
+                self._end(part, self._reply(part, document, status, body, pair), status, body, pair)
 
     def _reply(self, part: Part, document: Document, status: int, body: Body, pair: Optional[Pair]) -> Union[Reply, Loss]:
         """The status and the text of the body that are written for a reply which shows this pair, or what is known without them."""
@@ -158,8 +160,9 @@ class Answering:
             text = text_of_write(part.id, RESULTS[status], pair)
         if document.state is UNSURE and not self._is_settled(part, status, body):
             return Loss.UNKNOWN
-        if text is None:
-            text = readable(part.id, body)
+        if text is not None:
+            return status, text
+        text = readable(part.id, body)
         return (status, text) if text is not None else Loss.UNKNOWN
 
     def _number_shown(self, part: Part, document: Document, pair: Pair, source: Any) -> Optional[int]:

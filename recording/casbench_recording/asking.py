@@ -112,7 +112,7 @@ class Asking:
         if document is not None:
             self.set_operation(part, document, who)
             recording = self._recording
-            recording.write_calls_of(recording.history.of_shard(document.shard), [part])
+            recording.write_call(recording.history.of_shard(document.shard), part)
         return Asked(kind, (part,), is_head)
 
     def _made(self, kind: Kind, parts: List[Optional[Part]], who: Who) -> Optional[Asked]:

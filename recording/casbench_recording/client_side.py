@@ -104,7 +104,8 @@ class ClientSide(ClientConnection):
                 proxy.warn_of_nodes(request)
             if content and (request.fields.encoding or len(content) > MOST_READ):
                 content = decoded(content, request.fields.encoding, MOST_READ)
-            asked = exchange.asked = proxy.judge.ask(route, request.method, content, self.who(request))
+            who = self.who(request) if request.fields.who else self.asker
+            asked = exchange.asked = proxy.judge.ask(route, request.method, content, who)
             if asked is not None and len(asked.parts) > FEW_PARTS:
                 self.account()
         self.send(exchange, data, is_sent)

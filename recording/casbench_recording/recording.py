@@ -1,6 +1,6 @@
 """The lines of a recording that watches, and its end: at its time, or before it, where what is written can't be determined any more."""
 
-from typing import Callable, Dict, Sequence, Union
+from typing import Callable, Dict, List, Sequence, Union
 
 from .asked import Part
 from .bulk import Untellable
@@ -69,30 +69,44 @@ class Recording:
         """Writes the lines of calls to a history. A document that it can't go on with is judged no longer."""
         while parts and not self.has_ended:
             try:
-                calls = [history.call_one(parts[0].operation)] if len(parts) == 1 else history.call_all([it.operation for it in parts])
-            except TooManyLost as fault:
-                self.leave(fault.id, str(fault))
-                parts = [it for it in parts if it.id != fault.id]
-            except Ended:
-                self.end_part(history, f"{history.path} is full")
-                return
-            except HistoryError as fault:
-                self.end_part(history, str(fault))
-                return
-            else:
-                self._called(parts, calls)
-                return
+                calls = history.call_all([it.operation for it in parts])
+            except (TooManyLost, Ended, HistoryError) as fault:
+                parts = self._left(history, parts, fault)
+                continue
+            for part, call in zip(parts, calls):
+                part.call = call
+                if part.document is not None:
+                    part.document.opens(call)
+            if self._moved:
+                self._go_on(parts)
+            return
 
-    def _called(self, parts: Sequence[Part], calls: Sequence[Call]) -> None:
-        """Keeps the calls whose lines are written. A document that begins another part forgets what that has nothing of."""
-        for part, call in zip(parts, calls):
-            part.call, document = call, part.document
-            if document is not None:
-                document.opens(call)
-        if self._moved:
-            for document in {it.document for it in parts if it.document is not None and it.document.id in self._moved}:
-                document.goes_on(self._moved[document.id])
-            self._moved.clear()
+    def write_call(self, history: CallWriter, part: Part) -> None:
+        """The same of one call, in fewer steps."""
+        if not self.has_ended:
+            try:
+                part.call = call = history.call_one(part.operation)
+            except (TooManyLost, Ended, HistoryError) as fault:
+                self._left(history, [part], fault)
+                return
+            if part.document is not None:
+                part.document.opens(call)
+            if self._moved:
+                self._go_on([part])
+
+    def _left(self, history: CallWriter, parts: Sequence[Part], fault: Exception) -> List[Part]:
+        """The parts whose lines can still be written after this fault: none if the history ended."""
+        if isinstance(fault, TooManyLost):
+            self.leave(fault.id, str(fault))
+            return [it for it in parts if it.id != fault.id]
+        self.end_part(history, f"{history.path} is full" if isinstance(fault, Ended) else str(fault))
+        return []
+
+    def _go_on(self, parts: Sequence[Part]) -> None:
+        """Has the documents that begin another part forget what that has nothing of."""
+        for document in {it.document for it in parts if it.document is not None and it.document.id in self._moved}:
+            document.goes_on(self._moved[document.id])
+        self._moved.clear()
 
     def write_ending(self, call: Call, ending: Union[Reply, Loss]) -> None:
         """Writes the ending of a call. If the history ended in the meantime the call is lost by that."""
