@@ -2,6 +2,7 @@
 """Measures what the recording proxy takes: how many requests a second pass, and how long each takes, with it and without.
 
     python3 tests/measure_proxy.py [--clients 100] [--seconds 10] [--times 1] [--part N] [--rate N] [--apart] [PROGRAM]
+    python3 tests/measure_proxy.py --bytecodes [--part N] [--package FOLDER]
 
 Starts the stand-in, and has so many clients ask it, each on a connection of its own and its next request after each answer:
 three gets, an index and an index under the condition of the last pair that it was shown, in turn, each client on a document of its own
@@ -9,6 +10,9 @@ and on one that all share. Then the same through the proxy, and what the program
 together ask so many times a second and no more, evenly, so that the times show what the proxy adds to each request. What each takes of a
 processor is reported too, since the times of the clock say little where other work is done beside; and how much memory the proxy takes, after
 each of several times. With a part the recording has no end: each part has so many calls.
+
+With --bytecodes it prints how many bytecodes of Python the proxy takes for a request of one client, which other work doesn't change: of a long
+run less those of a short one. FOLDER is the recording package of another checkout, to compare two states of the proxy.
 """
 
 import argparse
@@ -24,10 +28,33 @@ import tempfile
 import time
 
 from attacks import megabytes
-from recordings import Started, judged
+from recordings import PACKAGE, Started, judged
 
 NUMBERS = re.compile(rb'"_seq_no":(\d+),"_primary_term":(\d+)')
 LENGTH = re.compile(rb"content-length: (\d+)", re.IGNORECASE)
+
+# How many requests a run has whose bytecodes are counted, and the one with whose it is compared.
+FEW, MANY = 500, 2_500
+
+# A proxy that counts the bytecodes of its main thread, without those of its ticks, and writes the number to a file.
+COUNTED = """
+import os, pathlib, sys
+from casbench_recording import loop, proxy
+
+count, loop.TICK = 0, 3600
+
+def trace(frame, event, _):
+    global count
+    frame.f_trace_opcodes, frame.f_trace_lines = True, False
+    count += event == "opcode"
+    return trace
+
+sys.settrace(trace)
+status = proxy.run(sys.argv[1:])
+sys.settrace(None)
+pathlib.Path(os.environ["COUNT"]).write_text(str(count))
+os._exit(status)
+"""
 
 
 class Client:
@@ -129,6 +156,23 @@ def measure_times(proxy, other, setting):
         print(f"  {count} requests so far, {megabytes(proxy, 'VmRSS'):.1f} MiB", flush=True)
 
 
+def bytecodes(requests, parts, package):
+    """How many bytecodes a proxy of a package takes from its start to its end, if one client asks so often."""
+    with tempfile.TemporaryDirectory() as folder, Started("stand_in", "--port", "0") as other:
+        other.make("carts")
+        count = pathlib.Path(folder) / "count"
+        words = ["--listen", "127.0.0.1:0", "--cluster", other.url, "--index", "carts", *parts, os.path.join(folder, "carts.ndjson")]
+        with Started("proxy", *words, start=(sys.executable, "-c", COUNTED), COUNT=str(count), PYTHONPATH=package) as proxy:
+            client = Client(0, proxy.port)
+            with client.socket:
+                for _ in range(requests):
+                    client.ask()
+                    while not client.hears():
+                        pass
+            proxy.ended()
+        return int(count.read_text())
+
+
 def keep_apart(proxy):
     """Gives the proxy a processor of its own, and all else the others."""
     first, *others = sorted(os.sched_getaffinity(0))
@@ -151,15 +195,21 @@ def main():
     parser.add_argument("--part", type=int, help="records in parts of so many calls")
     parser.add_argument("--rate", type=int)
     parser.add_argument("--apart", action="store_true", help="gives the proxy a processor of its own")
+    parser.add_argument("--bytecodes", action="store_true", help="counts the bytecodes that a request takes, and measures nothing else")
+    parser.add_argument("--package", metavar="FOLDER", default=str(PACKAGE), help="of the proxy of this recording package")
     parser.add_argument("program", nargs="?", default=None)
     setting = parser.parse_args()
+    parts = ["--part", str(setting.part)] if setting.part else []
+    if setting.bytecodes:
+        few, many = (bytecodes(it, parts, os.path.realpath(setting.package)) for it in (FEW, MANY))
+        print(f"{(many - few) / (MANY - FEW):.0f} bytecodes for a request")
+        return
     with tempfile.TemporaryDirectory() as folder:
         with Started("stand_in", "--port", "0") as other:
             measure("without the proxy", other.port, setting, stand_in=other)
         with Started("stand_in", "--port", "0") as other:
             other.make("carts")
             file = pathlib.Path(folder) / "carts.ndjson"
-            parts = ["--part", str(setting.part)] if setting.part else []
             words = ["--listen", "127.0.0.1:0", "--cluster", other.url, "--index", "carts", *parts, str(file)]
             with Started("proxy", *words) as proxy:
                 if setting.apart:

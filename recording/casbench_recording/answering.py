@@ -137,10 +137,10 @@ class Answering:
                 self._ledger.untold(str(body["_id"]), "an answer told this id, and another one was asked for")
                 body = None
             if body is None:
-                self._end(part, Loss.UNKNOWN, status, {}, None)
+                self._end(part, document, Loss.UNKNOWN, status, {}, None)
             else:
                 pair = pair_if(body.get("_primary_term"), body.get("_seq_no"))
-                self._end(part, self._reply(part, document, status, body, pair), status, body, pair)
+                self._end(part, document, self._reply(part, document, status, body, pair), status, body, pair)
 
     def _reply(self, part: Part, document: Document, status: int, body: Body, pair: Optional[Pair]) -> Union[Reply, Loss]:
         """The status and the text of the body that are written for a reply which shows this pair, or what is known without them."""
@@ -211,8 +211,8 @@ class Answering:
         elif self._asking.write_part(part):
             self._answered(part, status, body)
 
-    def _end(self, part: Part, ending: Union[Reply, Loss], status: int, body: Body, pair: Optional[Pair]) -> None:
-        """Ends the call of a part, by a reply or without one."""
+    def _end(self, part: Part, document: Document, ending: Union[Reply, Loss], status: int, body: Body, pair: Optional[Pair]) -> None:
+        """Ends the call of a part, on this document, by a reply or without one."""
         call = ending_call(part)
         if call is None:
             return
@@ -220,7 +220,7 @@ class Answering:
             heed_write(part, ending, status, body, pair)
         if self._endings is None:
             self._recording.write_ending(call, ending)
-            if not part.turn and self._ledger.is_endless:
+            if not document.turns and self._ledger.is_endless:
                 self._ledger.rest((part,))
         else:
             self._endings.append((call, ending))

@@ -10,7 +10,7 @@ import argparse
 import contextlib
 import os
 import time
-from typing import Callable, Dict, List, Optional, Sequence, Union
+from typing import Callable, Dict, List, Optional, Sequence, Tuple, Union
 
 from .history import MOST_EVENTS, Call, CallError, CallWriter, Ended, Ending, History, HistoryError, Loss, Operation, Reply, members_of_call
 from .past import Beginning, Past, told_by_ending
@@ -200,8 +200,8 @@ class Continuing(CallWriter):
     def call_one(self, operation: Operation) -> Call:
         """Writes the line of a call to the part that the document is in."""
         with self._lock:
-            document = self._document(operation)
-            part = document.place() or self._move(operation.id, document)
+            document, part = self._document(operation)
+            part = part or self._move(operation.id, document)
             own = part.call(operation)
             call = self._begin(operation, document, part)
             call.own = own
@@ -212,14 +212,14 @@ class Continuing(CallWriter):
         for it in operations:
             members_of_call(it)
         with self._lock:
-            documents = [self._document(it) for it in operations]
+            documents = [self._document(it)[0] for it in operations]
             calls = [self._take(operation, document) for operation, document in zip(operations, documents)]
             for part in {it.part for it in calls}:
                 part.write()
             return [*calls]
 
-    def _document(self, operation: Operation) -> Document:
-        """The document of an operation, after a look whether it can be called."""
+    def _document(self, operation: Operation) -> Tuple[Document, Optional[Part]]:
+        """The document of an operation, after a look whether it can be called, and the part that the call goes to, unless the document moves."""
         if self.has_ended:
             raise Ended
         document = self._documents.get(operation.id)
@@ -228,9 +228,10 @@ class Continuing(CallWriter):
             document = self._documents[operation.id] = Document(operation.shard, self._reading)
         if document.shard != operation.shard:
             raise CallError(f"the document {operation.id!r} is on shard {document.shard}, and not on {operation.shard}")
-        if document.is_left or document.place() is None and not self._can_move(document):
+        part = document.place()
+        if document.is_left or part is None and not self._can_move(document):
             raise TooManyLost(operation.id)
-        return document
+        return document, part
 
     def leave(self, ids: Sequence[str]) -> None:
         """Forgets documents that are called no more. Their calls that are open may still end."""

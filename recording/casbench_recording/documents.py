@@ -57,7 +57,7 @@ class Document:
     """A document: its calls that are open, the last versions, and which of its writes may have been performed unseen."""
 
     __slots__ = ("id", "shard", "state", "open", "deletes", "_nothing", "_written", "_forgotten", "_unknown")
-    __slots__ += ("_turns", "_open_writes", "_doubtful", "_has_lost", "acknowledged")
+    __slots__ += ("turns", "_open_writes", "_doubtful", "_has_lost", "acknowledged")
 
     def __init__(self, id: str, shard: int, state: State) -> None:
         self.id = id
@@ -75,7 +75,7 @@ class Document:
         self._unknown = 0
         # how many writes were called, and how many of them are open; up to which of them one was answered that may have been performed
         # unseen, 0 if there is none; and whether one is lost that may be performed at any time
-        self._turns = self._open_writes = self._doubtful = 0
+        self.turns = self._open_writes = self._doubtful = 0
         self._has_lost = False
         # the greatest pair that a write was acknowledged with
         self.acknowledged: Optional[Pair] = None
@@ -83,14 +83,9 @@ class Document:
     # The turns of writes
 
     @property
-    def was_written(self) -> bool:
-        """Whether a write of it was called."""
-        return self._turns > 0
-
-    @property
     def writes(self) -> int:
         """How many calls were made that may write the document and don't delete it."""
-        return self._turns - self.deletes - self._nothing
+        return self.turns - self.deletes - self._nothing
 
     @property
     def is_settled(self) -> bool:
@@ -102,12 +97,12 @@ class Document:
         if op == "delete":
             self.deletes += 1
         self._open_writes += 1
-        self._turns = turn = self._turns + 1
+        self.turns = turn = self.turns + 1
         return turn
 
     def is_last(self, turn: int) -> bool:
         """Whether no write was called after the one of this turn, and each before it was seen."""
-        return turn == self._turns and self.state is State.JUDGED
+        return turn == self.turns and self.state is State.JUDGED
 
     def acknowledges(self, turn: int, pair: Pair) -> None:
         """Notes that a write was acknowledged with this pair. Those that were answered before it was called take none behind it."""
@@ -120,7 +115,7 @@ class Document:
     def doubts(self, operation: Operation, is_answered: bool) -> None:
         """Notes that a write may have been performed unseen. Without an answer, and without a condition, it may be at any later time."""
         if is_answered or operation.condition is not None:
-            self._doubtful = self._turns
+            self._doubtful = self.turns
         else:
             self._has_lost = True
 

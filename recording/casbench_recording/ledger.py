@@ -87,7 +87,7 @@ class Ledger:
             return
         for it in parts:
             document = it.document if it is not None else None
-            if document is not None and not document.was_written and not document.open and self._endless.forgets(document.id):
+            if document is not None and not document.turns and not document.open and self._endless.forgets(document.id):
                 self.documents.pop(document.id)
 
     def _first_seen(self, id: str) -> Optional[Document]:

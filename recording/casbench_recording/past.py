@@ -14,7 +14,7 @@ from dataclasses import dataclass
 from enum import Enum
 from typing import Dict, List, NamedTuple, Optional, Sequence, Tuple, Union
 
-from .history import CONFLICT, WRITES_A_VALUE, Call, Loss, Operation, Pair, is_whole, pair_of, value_of
+from .history import CONFLICT, WRITES_A_VALUE, Call, Loss, Operation, Pair, is_whole, pair_if, value_of
 from .reading import STRICT, Conflicts, Gets, Reading, Writes
 from .unperformed import changed_nothing, type_of
 
@@ -70,7 +70,7 @@ def told_by(operation: Operation, status: int, text: Optional[str]) -> Told:
         return UNKNOWN
     if operation.op == "get":
         return told_by_get(status, body)
-    pair = pair_of(body)
+    pair = pair_if(body.get("_primary_term"), body.get("_seq_no"))
     if pair is not None and (operation.op, status, body.get("result")) in RESULTS_OF_A_WRITE:
         return Told(Outcome.WRITTEN, Version(pair, operation.value))
     if status == 409 and type_of(body.get("error")) == CONFLICT:
@@ -87,7 +87,7 @@ def told_by_ending(operation: Operation, ending: Union[Tuple[int, Optional[str]]
 
 def told_by_get(status: int, body: Dict[str, object]) -> Told:
     """The same of a get."""
-    pair, source = pair_of(body), body.get("_source")
+    pair, source = pair_if(body.get("_primary_term"), body.get("_seq_no")), body.get("_source")
     if status == 200 and body.get("found") is True and pair is not None and isinstance(source, dict):
         value = source.get("k")
         return Told(Outcome.FOUND, Version(pair, value)) if is_whole(value, 0, 2**64 - 1) else UNKNOWN
