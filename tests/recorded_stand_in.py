@@ -7,6 +7,8 @@ PROGRAM isn't used. The last node has the primary at first, and is the only one 
 says how many tests passed and failed.
 """
 
+import asyncio
+import socket
 import sys
 import threading
 import time
@@ -16,6 +18,8 @@ from recorded_through_proxy import Asker
 from recordings import Started
 from running import free_ports
 
+from casbench_recording.stand_in import cluster
+from casbench_recording.stand_in.server import Server, ServerSetting
 from casbench_recording.stand_in.shard_copy import Entry, ShardCopy
 
 # How many nodes there are, and how many seconds something may take to come about.
@@ -53,6 +57,30 @@ class StandInTest(ProgramTest):
 
 def pair_of(body):
     return body["_primary_term"], body["_seq_no"]
+
+
+class Stopped(ProgramTest):
+    """The server of a node that is killed. It is stopped while a connection is being accepted."""
+
+    async def answer_after(self, turns):
+        """What a client gets that connects so many turns of the loop before the server is stopped, and asks behind that."""
+        server = Server(cluster.Cluster(), 0, ServerSetting(), 0)
+        await server.listen()
+        with socket.create_connection(("127.0.0.1", server._port), timeout=PATIENCE) as connection:
+            for _ in range(turns):
+                await asyncio.sleep(0)
+            server.stop()
+            try:
+                connection.sendall(b"GET / HTTP/1.1\r\n\r\n")
+                return await asyncio.to_thread(connection.recv, 1000)
+            except ConnectionError:
+                return b""
+
+    def test_a_connection_that_was_just_accepted(self):
+        """A node that was killed answers nothing, and so no get from the copy that it had."""
+        for turns in range(10):
+            with self.subTest(turns):
+                self.assertEqual(asyncio.run(self.answer_after(turns)), b"")
 
 
 class Copies(ProgramTest):

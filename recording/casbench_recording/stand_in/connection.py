@@ -35,9 +35,12 @@ class ServerConnection(asyncio.BufferedProtocol):
         self.is_busy = False
 
     def connection_made(self, transport: asyncio.BaseTransport) -> None:
-        """Keeps what the answers are written to."""
+        """Keeps what the answers are written to. A connection that was accepted just before the server was stopped is reset as others are:
+        the node that was killed answers nothing."""
         self.transport = cast(asyncio.Transport, transport)
         self.server.connections.add(self)
+        if not self.server.is_up:
+            self.transport.abort()
 
     def connection_lost(self, fault: Optional[Exception]) -> None:
         """Answers nothing more."""

@@ -45,6 +45,8 @@ class Server:
         # (a view, since asyncio writes encrypted messages into slices of it, and those of the bytes themselves are copies)
         self.buffer = memoryview(bytearray(65_536))
         self.fields = [f"X-Elastic-Product: {setting.product}"] if setting.product else []
+        # whether connections are taken
+        self.is_up = False
         self._port = port
         self._second = second
         self._place: Optional[socket.socket] = None
@@ -72,8 +74,15 @@ class Server:
             # (the port stays taken while nobody listens, and clients are refused)
             self._place = bound(self._port)
             self._port = self._place.getsockname()[1]
+        self.is_up = True
         how = {"ssl": self._trust, "backlog": BACKLOG}
-        self._listener = await asyncio.get_running_loop().create_server(lambda: ServerConnection(self), sock=bound(self._port), **how)
+        self._listener = await asyncio.get_running_loop().create_server(self.connection, sock=bound(self._port), **how)
+
+    def connection(self) -> ServerConnection:
+        """What answers a connection that was accepted. If the server was stopped meanwhile that is closed as the fault is raised."""
+        if not self.is_up:
+            raise ConnectionAbortedError
+        return ServerConnection(self)
 
     def report(self) -> None:
         """Reports its address."""
@@ -82,6 +91,7 @@ class Server:
 
     def stop(self) -> None:
         """Listens no more, and resets its connections."""
+        self.is_up = False
         if self._listener is not None:
             self._listener.close()
         for it in list(self.connections):
