@@ -42,7 +42,8 @@ READS = Load(documents=3, turns="swap swap put put update delete bulk mget get g
 
 READS_OF_THE_FIRST = READS._replace(readers=(0,))
 
-# If nothing is disturbed some 340 lines lie before the first ones that a strict check accuses, at times 2,000: so there are many more.
+# If nothing is disturbed a strict check accuses the first 340 lines on the average, and of one recording of 128 the first 1,700: so there
+# are some 6,000.
 MORE_READS = READS._replace(least=1_200)
 
 # Few writes in a row of one document, so that versions are read before they are written again; more documents than
