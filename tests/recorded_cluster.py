@@ -19,6 +19,8 @@ import shutil
 import subprocess
 import sys
 import tempfile
+import time
+import urllib.error
 from concurrent.futures import ProcessPoolExecutor
 from typing import NamedTuple
 
@@ -28,8 +30,9 @@ from program_test import run_tests
 from recorded_real_client import PYTHON, needs_client
 from recordings import FolderTest, Started, judged
 
-# How many nodes there are, how many recordings are made at once, and how many times a proxy is started.
-NODES, AT_ONCE, STARTS = 3, 3, 5
+# How many nodes there are, how many recordings are made at once, how many times a proxy is started and the index is made, and how many
+# seconds lie between two tries of the latter.
+NODES, AT_ONCE, STARTS, BETWEEN = 3, 3, 5, 0.5
 
 # How the nodes are disturbed. Where they are stopped or cut off the application reads from the first one alone, which is
 # spared: one that is cut off goes on answering gets, and what these show may be old.
@@ -107,7 +110,7 @@ class Recorded:
         words = ["--port", "0", "--nodes", str(NODES), "--replicas", str(NODES - 1), *words]
         self.store = self.stack.enter_context(Started("stand_in", *words))
         first, *others = [self.store.url, *self.store.addresses(NODES - 1)]
-        self.store.make("carts")
+        self.make_index()
         nodes = [it for url in others for it in ("--node", f"127.0.0.1:0={url}")]
         arguments = ["--listen", "127.0.0.1:0", "--cluster", first, *nodes, "--index", "carts", file]
         self.proxy = self.started_proxy(arguments)
@@ -118,6 +121,18 @@ class Recorded:
 
     def __exit__(self, *_):
         self.stack.close()
+
+    def make_index(self):
+        """Makes the index: again if the node that was asked is killed just then, which may have made it."""
+        for _ in range(STARTS):
+            try:
+                return self.store.make("carts")
+            except urllib.error.HTTPError as fault:
+                if b"resource_already_exists_exception" in fault.read():
+                    return None
+            except OSError:
+                time.sleep(BETWEEN)
+        raise AssertionError("the index couldn't be made")
 
     def started_proxy(self, arguments):
         """A proxy that listens: one that ended at once, since the node that it asked was killed just then, is started again."""
