@@ -117,7 +117,8 @@ class Refused(JudgeTest):
                 self.assertEqual(voids, [])
 
     def test_items_of_bulk_requests(self):
-        """An item is refused by itself, and all of them by a reply to the whole request."""
+        """An item is refused by itself, and all of them by a reply to the whole request, other than a rejection: a part of
+        them may have been handed on."""
         for name, (status, body) in {**REFUSALS, **NO_REFUSALS}.items():
             with self.subTest(name):
                 judge = self.judge()
@@ -130,7 +131,13 @@ class Refused(JudgeTest):
                 judge.close()
                 voids = [it["n"] for it in self.lines() if it.get("void")]
                 self.tidy()
-                self.assertEqual(voids, [0, 2, 3, 4, 5] if name in REFUSALS else [])
+                whole = [] if status == 429 else [3, 4, 5]
+                self.assertEqual(voids, [0, 2, *whole] if name in REFUSALS else [])
+
+    def test_a_bulk_request_of_one_document_that_is_rejected(self):
+        """Nothing of it was handed on."""
+        lines = [{"index": {"_id": "d"}}, {}]
+        self.assertEqual(self.endings(("POST /carts/_bulk", lines, REFUSALS["a coordinating node that has too much to do"])), [0])
 
     def test_an_update_that_is_rejected_by_the_node_that_it_was_handed_to(self):
         """An earlier attempt may have been performed by another one."""

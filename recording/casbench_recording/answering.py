@@ -90,7 +90,7 @@ class Answering:
             items = listed(body, "docs", len(asked.parts)) if status == 200 else iter(())
             yield from self._answered_items(asked.parts, items, "docs")
         else:
-            if is_unperformed(status, body):
+            if is_unperformed(status, body, is_handed_on=len(asked.parts) > 1):
                 for part in filter(None, asked.parts):
                     self._answered(part, status, body)
                 return

@@ -177,7 +177,7 @@ class ClusterSession:
     def outcomes(self, calls: Sequence[Call]) -> List[Optional[Reply]]:
         """What the answer to it says of each call."""
         answer = self.connection.receive()
-        if is_unperformed(answer.status, answer.members):
+        if is_unperformed(answer.status, answer.members, is_handed_on=len(calls) > 1):
             return [Reply(answer.status, answer.body, answer.members)] * len(calls)
         items = items_of([it.operation for it in calls], answer)
         return [None if it is None else Reply(it["status"], it, it) for it in items]

@@ -39,7 +39,9 @@ Body = Dict[str, Any]
 def is_unperformed(status: int, body: Optional[Body], is_handed_on: bool = False) -> bool:
     """Whether a reply states that the write was not performed.
 
-    A request for one update is handed on to the primary's node, which coordinates the write: that may reject it after an earlier attempt.
+    A request for one update is handed on to the primary's node, which coordinates the write: that may reject it after an earlier attempt. A
+    bulk request of several documents is handed on shard by shard, and may be rejected as a whole after a part of it was (shard indexing
+    pressure). Of either, a rejection by the coordinating node proves nothing.
     """
     if status not in MAY_BE_UNPERFORMED or not isinstance(body, dict) or body.get("status") != status:
         return False
