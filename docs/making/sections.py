@@ -146,6 +146,8 @@ SECTIONS = (
             "deciding/specs/Reported.antt",
             "deciding/specs/Positions.antt",
             "deciding/specs/Records.antt",
+            "deciding/specs/Facts.antt",
+            "deciding/specs/Elsewhere.antt",
             "deciding/specs/Branches.antt",
             "deciding/specs/Steps.antt",
             "deciding/specs/Tables.antt",

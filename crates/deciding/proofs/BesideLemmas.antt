@@ -7,14 +7,19 @@ use Rattle.version_pair.specs.PairOrder.{IsBelow}
 use Rattle.version_pair.proofs.ListLemmas.{none_is_not_some}
 use Rattle.doc_register.proofs.RunLemmas.{below_trans, not_below_itself, not_both_below}
 use Rattle.events.specs.declared.record.Rec.{Rec}
+use Rattle.std.specs.BTreeMap.{BTreeMap}
+use Rattle.std.proofs.Common.{refl, ap}
+use Rattle.deciding.specs.Facts.{Facts}
+use Rattle.deciding.specs.Elsewhere.{is_kept}
+use Rattle.deciding.specs.aids.Ends.{IsFreeFrom, IsFrom}
+use Rattle.deciding.proofs.Counts.{pair_order}
 use Rattle.deciding.specs.Reported.{IsKnown, known_pairs}
 use Rattle.deciding.specs.Positions.{count_below}
-use Rattle.deciding.specs.Branches.{IsAbove, is_among}
+use Rattle.deciding.specs.Branches.{IsAbove}
 use Rattle.deciding.specs.aids.Above.{IsLeastAbove}
 use Rattle.deciding.specs.aids.KnownPairs.{AreKnown, IsFreeAbove, IsNextKnown}
 use Rattle.deciding.proofs.Counts.{below_tested, pair_order, tested_below}
 use Rattle.deciding.proofs.KnownLemmas.{Has, below_first, below_inside, count_moved, inside_below, known_there, later_not_below, there_known}
-use Rattle.deciding.proofs.OrderedPositions.{among_known, known_among}
 
 -- a pair that is not below one above the lower one is above the lower one
 above_from : (lower : Option Pair) (p v : Pair) → IsAbove lower p → (p ≡ v) ⊎ IsBelow p v → IsAbove lower v
@@ -82,19 +87,74 @@ next_known records vs lower p (Some v) known least is =
           later_not_below vs (count_below (known_pairs records) p) there.0 u known.in_order far inside
           (subst (λ x. IsBelow x (get_or vs (count_below (known_pairs records) p) u)) (sym here) (subst (IsBelow u) (sym first) below))
 
--- ---- the least pair, if it is unknown
+-- ---- the least pair that is free
 
-pub none_free : (records : List Rec) (lower : Option Pair) → IsLeastAbove lower None → IsFreeAbove records lower None
-none_free records lower least r above unknown = absurd (least r above)
+-- each pair above the lower one is from the least of these on
+from_least : (lower : Option Pair) (c r : Pair) → IsLeastAbove lower (Some c) → IsAbove lower r → IsFrom c r
+from_least lower c r least above low = by_order (least.1 r above) where
+  by_order : (c ≡ r) ⊎ IsBelow c r → ⊥
+  by_order (inl same) = not_below_itself c (subst (λ p. IsBelow p c) (sym same) low)
+  by_order (inr over) = not_both_below c r over low
 
-pub known_free : (records : List Rec) (lower : Option Pair) (q : Pair) → IsLeastAbove lower (Some q) → is_among (known_pairs records) q ≡ true → IsFreeAbove records lower None
-known_free records lower q least is = λ r above unknown. (q, known, least.0, by_order r unknown (least.1 r above)) where
-  known : IsKnown records q
-  known = among_known records q is
+-- a pair from the least one on is above the lower one
+above_least : (lower : Option Pair) (c f : Pair) → IsLeastAbove lower (Some c) → IsFrom c f → IsAbove lower f
+above_least lower c f least from = by_order (pair_order c f) where
+  by_pair : (o : Option Pair) → IsAbove o c → IsBelow c f → IsAbove o f
+  by_pair None above over = tt
+  by_pair (Some l) above over = below_trans l c f above over
 
-  by_order : (r : Pair) → (¬ IsKnown records r) → (q ≡ r) ⊎ IsBelow q r → IsBelow q r
-  by_order r unknown (inl same) = absurd (unknown (subst (IsKnown records) same known))
-  by_order r unknown (inr over) = over
+  by_order : IsBelow c f ⊎ ((c ≡ f) ⊎ IsBelow f c) → IsAbove lower f
+  by_order (inl over) = by_pair lower least.0 over
+  by_order (inr (inl same)) = subst (IsAbove lower) same least.0
+  by_order (inr (inr low)) = absurd (from low)
 
-pub unknown_free : (records : List Rec) (lower : Option Pair) (q : Pair) → IsLeastAbove lower (Some q) → is_among (known_pairs records) q ≡ false → IsFreeAbove records lower (Some q)
-unknown_free records lower q least not = (λ known. true≢false (sym (known_among records q known) ∙ not), least.0, least.1)
+-- no pair is above the lower one
+pub none_free : (facts : Facts) (records : List Rec) (lower : Option Pair) → IsLeastAbove lower None → IsFreeAbove facts records lower None
+none_free facts records lower least r above unknown own = absurd (least r above)
+
+-- a pair that may be free isn't kept
+not_kept : (facts : Facts) (ends : BTreeMap Pair (Option Pair)) (r : Pair) → facts.elsewhere ≡ is_kept ends → facts.elsewhere r ≡ false → is_kept ends r ≡ true → ⊥
+not_kept facts ends r same own kept = true≢false (sym kept ∙ (ap (λ is. is r) (sym same) ∙ own))
+
+-- each pair above it is kept
+pub all_kept : (facts : Facts) (records : List Rec) (ends : BTreeMap Pair (Option Pair)) (lower : Option Pair) (c : Pair) → facts.elsewhere ≡ is_kept ends
+    → IsLeastAbove lower (Some c) → IsFreeFrom ends c None → IsFreeAbove facts records lower None
+all_kept facts records ends lower c same least all r above unknown own = absurd (not_kept facts ends r same own (all r (from_least lower c r least above)))
+
+-- a known pair comes before the free one
+pub known_first : (facts : Facts) (records : List Rec) (ends : BTreeMap Pair (Option Pair)) (lower : Option Pair) (c f v : Pair) → facts.elsewhere ≡ is_kept ends
+    → IsLeastAbove lower (Some c) → IsFreeFrom ends c (Some f) → IsNextKnown records lower (Some v) → (¬ IsBelow f v) → IsFreeAbove facts records lower None
+known_first facts records ends lower c f v same least free next not r above unknown own = (v, next.0, next.1, below) where
+  high : IsBelow r f → ⊥
+  high low = not_kept facts ends r same own (free.2 r (from_least lower c r least above) low)
+
+  by_free : IsBelow r v → IsBelow f r ⊎ ((f ≡ r) ⊎ IsBelow r f) → IsBelow v r
+  by_free over (inl less) = absurd (not (below_trans f r v less over))
+  by_free over (inr (inl one)) = absurd (not (subst (λ p. IsBelow p v) (sym one) over))
+  by_free over (inr (inr low)) = absurd (high low)
+
+  by_order : IsBelow v r ⊎ ((v ≡ r) ⊎ IsBelow r v) → IsBelow v r
+  by_order (inl is) = is
+  by_order (inr (inl one)) = absurd (unknown (subst (IsKnown records) one next.0))
+  by_order (inr (inr over)) = by_free over (pair_order f r)
+
+  below : IsBelow v r
+  below = by_order (pair_order v r)
+
+-- the free one comes before all known pairs
+pub free_first : (facts : Facts) (records : List Rec) (ends : BTreeMap Pair (Option Pair)) (lower : Option Pair) (c f : Pair) (o : Option Pair) → facts.elsewhere ≡ is_kept ends
+    → IsLeastAbove lower (Some c) → IsFreeFrom ends c (Some f) → IsNextKnown records lower o → ((v : Pair) → o ≡ Some v → IsBelow f v) → IsFreeAbove facts records lower (Some f)
+free_first facts records ends lower c f o same least free next first = (unknown o refl next, ap (λ is. is f) same ∙ free.1, above, lesser) where
+  above : IsAbove lower f
+  above = above_least lower c f least free.0
+
+  unknown : (v : Option Pair) → o ≡ v → IsNextKnown records lower v → ¬ IsKnown records f
+  unknown None is none known = none f known above
+  unknown (Some v) is (listed, over, least_one) known = least_one f known above (first v is)
+
+  lesser : (r : Pair) → IsAbove lower r → facts.elsewhere r ≡ false → (f ≡ r) ⊎ IsBelow f r
+  lesser r over own = by_order (pair_order f r) where
+    by_order : IsBelow f r ⊎ ((f ≡ r) ⊎ IsBelow r f) → (f ≡ r) ⊎ IsBelow f r
+    by_order (inl is) = inr is
+    by_order (inr (inl one)) = inl one
+    by_order (inr (inr low)) = absurd (not_kept facts ends r same own (free.2 r (from_least lower c r least over) low))

@@ -8,8 +8,8 @@ use Rattle.version_pair.proofs.ListLemmas.{get_front, none_is_not_some, same_som
 use Rattle.doc_register.specs.declared.op.Op.{Op}
 use Rattle.doc_register.specs.declared.op.Op.TheVariants.{Get, Index, Delete, Create}
 use Rattle.doc_register.specs.declared.reply.Reply.{Reply}
-use Rattle.doc_register.specs.declared.state.Conflicts.{Conflicts}
 use Rattle.doc_register.specs.Register.{condition_of, value_of}
+use Rattle.deciding.specs.Facts.{Facts}
 use Rattle.events.specs.declared.record.Rec.{Rec}
 use Rattle.events.specs.Heard.{pair_of}
 use Rattle.deciding.specs.declared.groups.Entry.{Entry}
@@ -46,13 +46,13 @@ some_in None n is = absurd (none_is_not_some n is)
 some_in (Some m) n is = (zero, is)
 
 -- a call of which the number is among them represents itself
-pub itself : (conflicts : Conflicts) (records : List Rec) (event : ℕ) (b : Branch) (j : ℕ) (s : Rec) (q : Pair) (numbers : List ℕ) → IsNumberOf numbers j → MayPerform conflicts records event b j s q
-    → IsRepresented conflicts records event b j s q numbers
-itself conflicts records event b j s q numbers listed may = record { number = j; call = s; listed = listed; may = may; same = refl }
+pub itself : (facts : Facts) (records : List Rec) (event : ℕ) (b : Branch) (j : ℕ) (s : Rec) (q : Pair) (numbers : List ℕ) → IsNumberOf numbers j → MayPerform facts records event b j s q
+    → IsRepresented facts records event b j s q numbers
+itself facts records event b j s q numbers listed may = record { number = j; call = s; listed = listed; may = may; same = refl }
 
-pub represented_in : (conflicts : Conflicts) (records : List Rec) (event : ℕ) (b : Branch) (j : ℕ) (s : Rec) (q : Pair) (old new : List ℕ) → AreIn old new
-    → IsRepresented conflicts records event b j s q old → IsRepresented conflicts records event b j s q new
-represented_in conflicts records event b j s q old new more r = record { number = r.number; call = r.call; listed = more r.number r.listed; may = r.may; same = r.same }
+pub represented_in : (facts : Facts) (records : List Rec) (event : ℕ) (b : Branch) (j : ℕ) (s : Rec) (q : Pair) (old new : List ℕ) → AreIn old new
+    → IsRepresented facts records event b j s q old → IsRepresented facts records event b j s q new
+represented_in facts records event b j s q old new more r = record { number = r.number; call = r.call; listed = more r.number r.listed; may = r.may; same = r.same }
 
 -- ---- calls of one kind
 
@@ -128,7 +128,7 @@ delete_of_kind r kind is = ap (λ h. is_unanswered h && is_plain_delete r.op) is
 make_of_kind : (r : Rec) (kind : Lost) → IsOfKind r kind → is_lost_make r ≡ is_make_kind kind
 make_of_kind r kind is = ap (λ h. is_unanswered h && is_plain_make r.op) is.unanswered ∙ make_of_op r.op kind is.of_op
 
--- where one is a create all of its kind are
+-- if one is a create, all of its kind are
 same_create : (a b : Op) (kind : Lost) (k : ℕ) → kind_of_op a ≡ Some kind → kind_of_op b ≡ Some kind → a ≡ Create k → (n : ℕ) × (b ≡ Create n)
 same_create a b kind k one two is = by_op b (two ∙ (sym one ∙ ap kind_of_op is)) where
   by_op : (op : Op) → kind_of_op op ≡ Some lost.Create → (n : ℕ) × (op ≡ Create n)
@@ -140,17 +140,17 @@ same_create a b kind k one two is = by_op b (two ∙ (sym one ∙ ap kind_of_op 
   by_op (Create n) is = (n, refl)
 
 -- a call without a reply shows no pair
-silent_takes : (conflicts : Conflicts) (records : List Rec) (s : Rec) (q : Pair) → s.heard ≡ None → (pair_of s.heard ≡ Some q) ⊎ MayHaveTaken conflicts records s q → MayHaveTaken conflicts records s q
-silent_takes conflicts records s q none (inl shown) = absurd (none_is_not_some q (sym (ap pair_of none) ∙ shown))
-silent_takes conflicts records s q none (inr may) = may
+silent_takes : (facts : Facts) (records : List Rec) (s : Rec) (q : Pair) → s.heard ≡ None → (pair_of s.heard ≡ Some q) ⊎ MayHaveTaken facts.conflicts records s q → MayHaveTaken facts.conflicts records s q
+silent_takes facts records s q none (inl shown) = absurd (none_is_not_some q (sym (ap pair_of none) ∙ shown))
+silent_takes facts records s q none (inr may) = may
 
--- An earlier call of the same kind may be performed where a later one may, if it gives the number that was found, and
+-- An earlier call of the same kind may be performed wherever a later one may, if it gives the number that was found, and
 -- has the same branch behind it.
-pub represents : (conflicts : Conflicts) (records : List Rec) (event : ℕ) (b : Branch) (j n : ℕ) (s first : Rec) (q : Pair) (kind : Lost) (numbers : List ℕ)
+pub represents : (facts : Facts) (records : List Rec) (event : ℕ) (b : Branch) (j n : ℕ) (s first : Rec) (q : Pair) (kind : Lost) (numbers : List ℕ)
     → kind_of s ≡ Some kind → kind_of first ≡ Some kind → slice_get records n ≡ Some first → first.call_at ≤ s.call_at
-    → ((k : ℕ) → IsFoundWith records q k → value_of first.op ≡ Some k) → IsNumberOf numbers n → MayPerform conflicts records event b j s q
-    → IsRepresented conflicts records event b j s q numbers
-represents conflicts records event b j n s first q kind numbers is too at earlier found listed may = record {
+    → ((k : ℕ) → IsFoundWith records q k → value_of first.op ≡ Some k) → IsNumberOf numbers n → MayPerform facts records event b j s q
+    → IsRepresented facts records event b j s q numbers
+represents facts records event b j n s first q kind numbers is too at earlier found listed may = record {
   number = n;
   call = first;
   listed = listed;
@@ -165,6 +165,7 @@ represents conflicts records event b j n s first q kind numbers is too at earlie
       gives = λ known. same_effect first.op s.op kind other.of_op own.of_op ∙ taken.gives known;
     });
     found = found;
+    own = may.own;
     rises = may.rises;
     before = may.before;
     passed = may.passed;
@@ -183,8 +184,8 @@ represents conflicts records event b j n s first q kind numbers is too at earlie
   other : IsOfKind first kind
   other = of_kind first kind too
 
-  taken : MayHaveTaken conflicts records s q
-  taken = silent_takes conflicts records s q own.unanswered may.takes
+  taken : MayHaveTaken facts.conflicts records s q
+  taken = silent_takes facts records s q own.unanswered may.takes
 
   exists : Bool
   exists = is_some (value_of s.op)
@@ -236,13 +237,13 @@ not_later records n j first s ordered at bt within = by_order (cases_lt n j) whe
       omega (arith, one)
 
 -- the first call of a kind represents each of it, if it gives the number that was found
-by_first : (conflicts : Conflicts) (records : List Rec) (event : ℕ) (b : Branch) (j : ℕ) (s : Rec) (q : Pair) (kind : Lost) (numbers : List ℕ) (o : Option ℕ) → AreOrdered records
+by_first : (facts : Facts) (records : List Rec) (event : ℕ) (b : Branch) (j : ℕ) (s : Rec) (q : Pair) (kind : Lost) (numbers : List ℕ) (o : Option ℕ) → AreOrdered records
     → IsFirst records kind o → ((n : ℕ) → o ≡ Some n → IsNumberOf numbers n) → kind_of s ≡ Some kind
-    → ((first : Rec) → kind_of first ≡ Some kind → (k : ℕ) → IsFoundWith records q k → value_of first.op ≡ Some k) → MayPerform conflicts records event b j s q
-    → IsRepresented conflicts records event b j s q numbers
-by_first conflicts records event b j s q kind numbers None ordered none listed is found may = absurd (none j s may.at is)
-by_first conflicts records event b j s q kind numbers (Some n) ordered (first, at, too, least) listed is found may =
-    represents conflicts records event b j n s first q kind numbers is too at (not_later records n j first s ordered at may.at (least j s may.at is)) (found first too) (listed n refl) may
+    → ((first : Rec) → kind_of first ≡ Some kind → (k : ℕ) → IsFoundWith records q k → value_of first.op ≡ Some k) → MayPerform facts records event b j s q
+    → IsRepresented facts records event b j s q numbers
+by_first facts records event b j s q kind numbers None ordered none listed is found may = absurd (none j s may.at is)
+by_first facts records event b j s q kind numbers (Some n) ordered (first, at, too, least) listed is found may =
+    represents facts records event b j n s first q kind numbers is too at (not_later records n j first s ordered at may.at (least j s may.at is)) (found first too) (listed n refl) may
 
 -- a delete gives no number, an index and a create give one
 no_number : (op : Op) → kind_of_op op ≡ Some lost.Delete → value_of op ≡ None
@@ -266,12 +267,12 @@ number_of_create (Delete None) is = let impossible : lost.Delete ≡ lost.Create
 number_of_create (Delete (Some c)) is = absurd (none_is_not_some lost.Create is)
 number_of_create (Create k) is = (k, refl)
 
--- where deletes are represented, each is
-deletes_in : (conflicts : Conflicts) (records : List Rec) (event : ℕ) (b : Branch) (j : ℕ) (s : Rec) (q : Pair) (numbers : List ℕ) (o : Option ℕ) → AreOrdered records
-    → IsFirst records lost.Delete o → ((n : ℕ) → o ≡ Some n → IsNumberOf numbers n) → kind_of s ≡ Some lost.Delete → MayPerform conflicts records event b j s q
-    → IsRepresented conflicts records event b j s q numbers
-deletes_in conflicts records event b j s q numbers o ordered first listed is may =
-    by_first conflicts records event b j s q lost.Delete numbers o ordered first listed is
+-- if deletes are represented, each is
+deletes_in : (facts : Facts) (records : List Rec) (event : ℕ) (b : Branch) (j : ℕ) (s : Rec) (q : Pair) (numbers : List ℕ) (o : Option ℕ) → AreOrdered records
+    → IsFirst records lost.Delete o → ((n : ℕ) → o ≡ Some n → IsNumberOf numbers n) → kind_of s ≡ Some lost.Delete → MayPerform facts records event b j s q
+    → IsRepresented facts records event b j s q numbers
+deletes_in facts records event b j s q numbers o ordered first listed is may =
+    by_first facts records event b j s q lost.Delete numbers o ordered first listed is
     (λ other too k found. absurd (none_is_not_some k (sym (no_number s.op (of_kind s lost.Delete is).of_op) ∙ may.found k found))) may
 
 -- what the list has of the writes without a reply and without a condition, if gets found one number with the pair
@@ -281,15 +282,15 @@ pub record HasNumbered (records : List Rec) (delete : Option ℕ) (k : ℕ) (num
 
 pub lost_by_number : (records : List Rec) (q : Pair) (delete : Option ℕ) (k : ℕ) (numbers : List ℕ) → AreOrdered records → IsFirst records lost.Delete delete → IsFoundWith records q k
     → HasNumbered records delete k numbers → AreLostIn records q numbers
-lost_by_number records q delete k numbers ordered first found has conflicts event b j s kind is may = by_kind kind is where
-  given : (kind : Lost) → kind_of s ≡ Some kind → IsRepresented conflicts records event b j s q numbers
+lost_by_number records q delete k numbers ordered first found has facts event b j s kind is may = by_kind kind is where
+  given : (kind : Lost) → kind_of s ≡ Some kind → IsRepresented facts records event b j s q numbers
   given kind is =
       let value = may.found k found in
       let key : key_given s ≡ Some k = ap (λ o. key_of_kind o (value_of s.op)) is ∙ value in
-      itself conflicts records event b j s q numbers (has.numbered j s may.at key) may
+      itself facts records event b j s q numbers (has.numbered j s may.at key) may
 
-  by_kind : (kind : Lost) → kind_of s ≡ Some kind → IsRepresented conflicts records event b j s q numbers
-  by_kind lost.Delete is = deletes_in conflicts records event b j s q numbers delete ordered first has.deletes is may
+  by_kind : (kind : Lost) → kind_of s ≡ Some kind → IsRepresented facts records event b j s q numbers
+  by_kind lost.Delete is = deletes_in facts records event b j s q numbers delete ordered first has.deletes is may
   by_kind lost.Index is = given lost.Index is
   by_kind lost.Create is = given lost.Create is
 
@@ -305,16 +306,16 @@ IsNotOne records q = ((k : ℕ) → ¬ IsFoundWith records q k) ⊎ ((n : ℕ) �
 
 pub lost_by_first : (records : List Rec) (q : Pair) (delete index create : Option ℕ) (numbers : List ℕ) → AreOrdered records → IsFirst records lost.Delete delete → IsFirst records lost.Index index
     → IsFirst records lost.Create create → IsNotOne records q → HasFirsts delete index create numbers → AreLostIn records q numbers
-lost_by_first records q delete index create numbers ordered first_delete first_index first_create found has conflicts event b j s kind is may = by_kind kind is found where
+lost_by_first records q delete index create numbers ordered first_delete first_index first_create found has facts event b j s kind is may = by_kind kind is found where
   several : (kind : Lost) → kind_of s ≡ Some kind → (k : ℕ) → value_of s.op ≡ Some k → ((n : ℕ) → ¬ ((k : ℕ) → IsFoundWith records q k → k ≡ n)) → ⊥
   several kind is n value apart =
       apart n (λ k one. same_some k n (sym (may.found k one) ∙ value))
 
-  by_kind : (kind : Lost) → kind_of s ≡ Some kind → IsNotOne records q → IsRepresented conflicts records event b j s q numbers
-  by_kind lost.Delete is f = deletes_in conflicts records event b j s q numbers delete ordered first_delete has.deletes is may
-  by_kind lost.Index is (inl none) = by_first conflicts records event b j s q lost.Index numbers index ordered first_index has.indexes is (λ other too k one. absurd (none k one)) may
+  by_kind : (kind : Lost) → kind_of s ≡ Some kind → IsNotOne records q → IsRepresented facts records event b j s q numbers
+  by_kind lost.Delete is f = deletes_in facts records event b j s q numbers delete ordered first_delete has.deletes is may
+  by_kind lost.Index is (inl none) = by_first facts records event b j s q lost.Index numbers index ordered first_index has.indexes is (λ other too k one. absurd (none k one)) may
   by_kind lost.Index is (inr apart) = let n = number_of_index s.op (of_kind s lost.Index is).of_op in absurd (several lost.Index is n.0 n.1 apart)
-  by_kind lost.Create is (inl none) = by_first conflicts records event b j s q lost.Create numbers create ordered first_create has.creates is (λ other too k one. absurd (none k one)) may
+  by_kind lost.Create is (inl none) = by_first facts records event b j s q lost.Create numbers create ordered first_create has.creates is (λ other too k one. absurd (none k one)) may
   by_kind lost.Create is (inr apart) = let n = number_of_create s.op (of_kind s lost.Create is).of_op in absurd (several lost.Create is n.0 n.1 apart)
 
 -- ---- what was added
@@ -337,42 +338,42 @@ in_second old one two new is n has = subst (λ xs. IsNumberOf xs n) (sym is) (in
 pub in_third : (old one two new : List ℕ) → new ≡ (old ++ one) ++ two → AreIn two new
 in_third old one two new is n has = subst (λ xs. IsNumberOf xs n) (sym is) (in_back (old ++ one) two n has)
 
--- where gets found no number, or different ones
+-- gets found no number, or different ones
 pub not_one : (records : List Rec) (q : Pair) (f : FoundNumbers) → AreNumbersFound records q f → ((f ≡ Unseen) ⊎ (f ≡ Several)) → IsNotOne records q
 not_one records q f found (inl is) = inl (subst (AreNumbersFound records q) is found)
 not_one records q f found (inr is) = inr (subst (AreNumbersFound records q) is found)
 
 -- ---- all candidates
 
--- where a reply shows which call took the pair, that call is the only one that may be performed with it
-pub are_shown : (conflicts : Conflicts) (records : List Rec) (event : ℕ) (b : Branch) (q : Pair) (numbers : List ℕ) → IsReportedOf records q
+-- if a reply shows which call took the pair, that call is the only one that may be performed with it
+pub are_shown : (facts : Facts) (records : List Rec) (event : ℕ) (b : Branch) (q : Pair) (numbers : List ℕ) → IsReportedOf records q
     → ((i : ℕ) (r : Rec) → slice_get records i ≡ Some r → key_shown records r ≡ Some (version_of records q) → IsNumberOf numbers i)
-    → AreCandidates conflicts records event b q numbers
-are_shown conflicts records event b q numbers reported shown j s may = by_reply may.takes where
-  by_reply : (pair_of s.heard ≡ Some q) ⊎ MayHaveTaken conflicts records s q → IsRepresented conflicts records event b j s q numbers
-  by_reply (inl shows) = itself conflicts records event b j s q numbers (shown j s may.at (ap (option_map (version_of records)) shows)) may
+    → AreCandidates facts records event b q numbers
+are_shown facts records event b q numbers reported shown j s may = by_reply may.takes where
+  by_reply : (pair_of s.heard ≡ Some q) ⊎ MayHaveTaken facts.conflicts records s q → IsRepresented facts records event b j s q numbers
+  by_reply (inl shows) = itself facts records event b j s q numbers (shown j s may.at (ap (option_map (version_of records)) shows)) may
   by_reply (inr taken) = absurd (taken.unreported reported)
 
--- what a list of candidates has where none does
-pub record HasAll (conflicts : Conflicts) (records : List Rec) (event : ℕ) (b : Branch) (q : Pair) (numbers : List ℕ) : Type 0 where
+-- what a list of candidates has if no reply shows which call took the pair
+pub record HasAll (facts : Facts) (records : List Rec) (event : ℕ) (b : Branch) (q : Pair) (numbers : List ℕ) : Type 0 where
   pub asked : (i : ℕ) (r : Rec) → slice_get records i ≡ Some r → key_asked records r ≡ Some (position records b.least) → IsNumberOf numbers i
   pub lost : AreLostIn records q numbers
-  pub open_ones : AreOpen conflicts records event numbers
+  pub open_ones : AreOpen facts.conflicts records event numbers
 
-pub are_candidates : (conflicts : Conflicts) (records : List Rec) (event : ℕ) (b : Branch) (q : Pair) (numbers : List ℕ) → (¬ IsReportedOf records q)
-    → HasAll conflicts records event b q numbers → AreCandidates conflicts records event b q numbers
-are_candidates conflicts records event b q numbers unreported has j s may = by_reply may.takes where
-  by_condition : s.heard ≡ None → (o : Option Pair) → condition_of s.op ≡ o → IsRepresented conflicts records event b j s q numbers
+pub are_candidates : (facts : Facts) (records : List Rec) (event : ℕ) (b : Branch) (q : Pair) (numbers : List ℕ) → (¬ IsReportedOf records q)
+    → HasAll facts records event b q numbers → AreCandidates facts records event b q numbers
+are_candidates facts records event b q numbers unreported has j s may = by_reply may.takes where
+  by_condition : s.heard ≡ None → (o : Option Pair) → condition_of s.op ≡ o → IsRepresented facts records event b j s q numbers
   by_condition none (Some c) asks =
       let met = may.condition c asks in
       let key : key_asked records s ≡ Some (position records b.least) =
       ap (key_unanswered records (condition_of s.op)) none ∙ (ap (λ o. option_map (λ (d : Pair). position records (Some d)) o) asks ∙ ap (λ n. Some n) (sym met.1)) in
-      itself conflicts records event b j s q numbers (has.asked j s may.at key) may
+      itself facts records event b j s q numbers (has.asked j s may.at key) may
   by_condition none None asks = by_op s.op refl asks where
-    lost_of : (kind : Lost) → kind_of_op s.op ≡ Some kind → IsRepresented conflicts records event b j s q numbers
-    lost_of kind is = has.lost conflicts event b j s kind (ap (kind_unanswered s.op) none ∙ is) may
+    lost_of : (kind : Lost) → kind_of_op s.op ≡ Some kind → IsRepresented facts records event b j s q numbers
+    lost_of kind is = has.lost facts event b j s kind (ap (kind_unanswered s.op) none ∙ is) may
 
-    by_op : (op : Op) → s.op ≡ op → condition_of op ≡ None → IsRepresented conflicts records event b j s q numbers
+    by_op : (op : Op) → s.op ≡ op → condition_of op ≡ None → IsRepresented facts records event b j s q numbers
     by_op Get is plain = absurd (may.write is)
     by_op (Index k None) is plain = lost_of lost.Index (ap kind_of_op is)
     by_op (Index k (Some c)) is plain = absurd (none_is_not_some c (sym plain))
@@ -380,15 +381,15 @@ are_candidates conflicts records event b q numbers unreported has j s may = by_r
     by_op (Delete (Some c)) is plain = absurd (none_is_not_some c (sym plain))
     by_op (Create k) is plain = lost_of lost.Create (ap kind_of_op is)
 
-  by_heard : is_hidden conflicts s.heard ≡ true → (o : Option (ℕ × Reply)) → s.heard ≡ o → IsRepresented conflicts records event b j s q numbers
+  by_heard : is_hidden facts.conflicts s.heard ≡ true → (o : Option (ℕ × Reply)) → s.heard ≡ o → IsRepresented facts records event b j s q numbers
   by_heard hides None heard = by_condition heard (condition_of s.op) refl
   by_heard hides (Some (y, reply)) heard =
-      itself conflicts records event b j s q numbers (has.open_ones j s y reply may.at heard hides may.called (may.pending y reply heard)) may
+      itself facts records event b j s q numbers (has.open_ones j s y reply may.at heard hides may.called (may.pending y reply heard)) may
 
-  by_silence : ((s.heard ≡ None) ⊎ (is_hidden conflicts s.heard ≡ true)) → IsRepresented conflicts records event b j s q numbers
+  by_silence : ((s.heard ≡ None) ⊎ (is_hidden facts.conflicts s.heard ≡ true)) → IsRepresented facts records event b j s q numbers
   by_silence (inl none) = by_condition none (condition_of s.op) refl
   by_silence (inr hides) = by_heard hides s.heard refl
 
-  by_reply : (pair_of s.heard ≡ Some q) ⊎ MayHaveTaken conflicts records s q → IsRepresented conflicts records event b j s q numbers
+  by_reply : (pair_of s.heard ≡ Some q) ⊎ MayHaveTaken facts.conflicts records s q → IsRepresented facts records event b j s q numbers
   by_reply (inl shows) = absurd (unreported (s, (j, may.at), shows))
   by_reply (inr taken) = by_silence taken.silent

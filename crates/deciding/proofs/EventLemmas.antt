@@ -4,7 +4,7 @@ use Rattle.std.proofs.lemmas.Bool.{cases_lt, eqb-true, ltb-false}
 use Rattle.std.proofs.lemmas.Option.{slice_get_within}
 use Rattle.version_pair.proofs.ListLemmas.{get_front, get_last, none_is_not_some, same_some}
 use Rattle.doc_register.specs.declared.reply.Reply.{Reply}
-use Rattle.doc_register.specs.declared.state.Conflicts.{Conflicts}
+use Rattle.deciding.specs.Facts.{Facts}
 use Rattle.events.specs.declared.record.Rec.{Rec}
 use Rattle.deciding.specs.Branches.{Branch, Covers, IsBranchOf, never_changed, position}
 use Rattle.deciding.specs.Steps.{count_of, is_hidden, is_lost_delete, is_lost_make, is_made_before, without}
@@ -17,7 +17,7 @@ use Rattle.deciding.specs.Tables.{AreLeftAtCall, AreLeftAtReply, IsNextTable, Is
 use Rattle.deciding.specs.declared.document.Document.{Document}
 use Rattle.deciding.specs.declared.walk.Walk.{Walk}
 use Rattle.deciding.specs.Records.{AreInOrder}
-use Rattle.deciding.specs.aids.Candidates.{AreOpen, IsDocument, IsNumberOf}
+use Rattle.deciding.specs.aids.Candidates.{facts_of, AreOpen, IsDocument, IsNumberOf}
 use Rattle.deciding.specs.aids.Moments.{HasMade}
 use Rattle.deciding.specs.aids.TablesOf.{table_of}
 use Rattle.deciding.specs.declared.made.Made.{Made}
@@ -36,9 +36,9 @@ one_call records i j r s order at bt same = by_order (cases_lt i j) (cases_lt j 
   by_order (inr not) (inr nor) = omega (arith, not, nor)
 
 -- the table behind a call
-pub behind_call : (conflicts : Conflicts) (records : List Rec) (event number : ℕ) (call : Rec) (table next : List Branch) → AreInOrder records → slice_get records number ≡ Some call → call.call_at ≡ event
-    → AreLeftAtCall records number call table next → IsNextTable conflicts records event table next
-behind_call conflicts records event number call table next order at called left = record {
+pub behind_call : (facts : Facts) (records : List Rec) (event number : ℕ) (call : Rec) (table next : List Branch) → AreInOrder records → slice_get records number ≡ Some call → call.call_at ≡ event
+    → AreLeftAtCall records number call table next → IsNextTable facts records event table next
+behind_call facts records event number call table next order at called left = record {
   called = λ i r there is. by_same i r (one_call records number i call r order at there (called ∙ sym is)) there;
   answered = λ i r reply there heard. absurd (order.apart i number r call event reply there at heard called);
   other = λ none quiet. absurd (none number call at called);
@@ -49,32 +49,32 @@ behind_call conflicts records event number call table next order at called left 
       (subst (λ c. AreLeftAtCall records number c table next) (same_some call r (sym at ∙ (ap (slice_get records) same ∙ there))) left)
 
 -- the table behind a reply
-pub behind_reply : (conflicts : Conflicts) (records : List Rec) (event number : ℕ) (call : Rec) (table next : List Branch) → AreInOrder records → IsAnswerAt records number call event
-    → AreLeftAtReply conflicts records event number call table next → IsNextTable conflicts records event table next
-behind_reply conflicts records event number call table next order answer left = record {
+pub behind_reply : (facts : Facts) (records : List Rec) (event number : ℕ) (call : Rec) (table next : List Branch) → AreInOrder records → IsAnswerAt records number call event
+    → AreLeftAtReply facts records event number call table next → IsNextTable facts records event table next
+behind_reply facts records event number call table next order answer left = record {
   called = λ i r there is. absurd (order.apart number i call r event answer.reply answer.at there answer.heard is);
   answered = λ i r reply there heard. by_same i r (order.once number i call r event answer.reply reply answer.at there answer.heard heard) there;
   other = λ none quiet. absurd (quiet number call answer.reply answer.at answer.heard);
 } where
-  by_same : (i : ℕ) (r : Rec) → number ≡ i → slice_get records i ≡ Some r → AreLeftAtReply conflicts records event i r table next
+  by_same : (i : ℕ) (r : Rec) → number ≡ i → slice_get records i ≡ Some r → AreLeftAtReply facts records event i r table next
   by_same i r same there =
-      subst (λ n. AreLeftAtReply conflicts records event n r table next) same
-      (subst (λ c. AreLeftAtReply conflicts records event number c table next) (same_some call r (sym answer.at ∙ (ap (slice_get records) same ∙ there))) left)
+      subst (λ n. AreLeftAtReply facts records event n r table next) same
+      (subst (λ c. AreLeftAtReply facts records event number c table next) (same_some call r (sym answer.at ∙ (ap (slice_get records) same ∙ there))) left)
 
 -- ---- events of other documents
 
 -- between two events of the document its table stays
-pub stays_until : (conflicts : Conflicts) (records : List Rec) (n event : ℕ) (table : List Branch) → IsTableAt conflicts records event table
+pub stays_until : (facts : Facts) (records : List Rec) (n event : ℕ) (table : List Branch) → IsTableAt facts records event table
     → ((i : ℕ) (r : Rec) → slice_get records i ≡ Some r → r.call_at < event + n → r.call_at < event)
     → ((i : ℕ) (r : Rec) (y : ℕ) (reply : Reply) → slice_get records i ≡ Some r → r.heard ≡ Some (y, reply) → y < event + n → y < event)
-    → IsTableAt conflicts records (event + n) table
-stays_until conflicts records zero event table is calls replies = subst (λ e. IsTableAt conflicts records e table) (omega arith) is
-stays_until conflicts records (suc n) event table is calls replies =
-    subst (λ e. IsTableAt conflicts records e table) (omega arith)
-    (stays_until conflicts records n (suc event) table (table, is, quiet)
+    → IsTableAt facts records (event + n) table
+stays_until facts records zero event table is calls replies = subst (λ e. IsTableAt facts records e table) (omega arith) is
+stays_until facts records (suc n) event table is calls replies =
+    subst (λ e. IsTableAt facts records e table) (omega arith)
+    (stays_until facts records n (suc event) table (table, is, quiet)
     (λ i r at within. (let first : r.call_at < event = calls i r at (omega (arith, within)) in omega (arith, first)))
     (λ i r y reply at heard within. (let first : y < event = replies i r y reply at heard (omega (arith, within)) in omega (arith, first)))) where
-      quiet : IsNextTable conflicts records event table table
+      quiet : IsNextTable facts records event table table
       quiet = record {
         called = λ i r at called. absurd (let first : r.call_at < event = calls i r at (omega (arith, called)) in omega (arith, first, called));
         answered = λ i r reply at heard. absurd (let first : event < event = replies i r event reply at heard (omega arith) in omega (arith, first));
@@ -99,9 +99,9 @@ in_without (m ∷ ms) number n (i, at) other = by_place i at (λ j bt. in_withou
   by_place (suc j) at rest = kept (m == number) (rest j at)
 
 -- behind a call
-pub open_pushed : (conflicts : Conflicts) (records : List Rec) (event number : ℕ) (call : Rec) (old new : List ℕ) → AreInOrder records → slice_get records number ≡ Some call → call.call_at ≡ event
-    → AreOpen conflicts records event old → new ≡ old ++ number ∷ [] → AreOpen conflicts records (suc event) new
-open_pushed conflicts records event number call old new order at called before is i r y reply there heard hides within until = by_order (cases_lt r.call_at event) where
+pub open_pushed : (facts : Facts) (records : List Rec) (event number : ℕ) (call : Rec) (old new : List ℕ) → AreInOrder records → slice_get records number ≡ Some call → call.call_at ≡ event
+    → AreOpen facts.conflicts records event old → new ≡ old ++ number ∷ [] → AreOpen facts.conflicts records (suc event) new
+open_pushed facts records event number call old new order at called before is i r y reply there heard hides within until = by_order (cases_lt r.call_at event) where
   by_order : ((r.call_at < event) ⊎ (event ≤ r.call_at)) → IsNumberOf new i
   by_order (inl first) =
       let was = before i r y reply there heard hides first (omega (arith, until)) in
@@ -110,20 +110,20 @@ open_pushed conflicts records event number call old new order at called before i
       let same : number ≡ i = one_call records number i call r order at there (omega (arith, called, not, within)) in
       (length old, ap (λ xs. slice_get xs (length old)) is ∙ (get_last old number ∙ ap (λ n. Some n) same))
 
-pub open_stays : (conflicts : Conflicts) (records : List Rec) (event number : ℕ) (call : Rec) (old : List ℕ) → AreInOrder records → slice_get records number ≡ Some call → call.call_at ≡ event
-    → AreOpen conflicts records event old → is_hidden conflicts call.heard ≡ false → AreOpen conflicts records (suc event) old
-open_stays conflicts records event number call old order at called before shows i r y reply there heard hides within until = by_order (cases_lt r.call_at event) where
+pub open_stays : (facts : Facts) (records : List Rec) (event number : ℕ) (call : Rec) (old : List ℕ) → AreInOrder records → slice_get records number ≡ Some call → call.call_at ≡ event
+    → AreOpen facts.conflicts records event old → is_hidden facts.conflicts call.heard ≡ false → AreOpen facts.conflicts records (suc event) old
+open_stays facts records event number call old order at called before shows i r y reply there heard hides within until = by_order (cases_lt r.call_at event) where
   by_order : ((r.call_at < event) ⊎ (event ≤ r.call_at)) → IsNumberOf old i
   by_order (inl first) = before i r y reply there heard hides first (omega (arith, until))
   by_order (inr not) =
       let same : number ≡ i = one_call records number i call r order at there (omega (arith, called, not, within)) in
       let one : call ≡ r = same_some call r (sym at ∙ (ap (slice_get records) same ∙ there)) in
-      absurd (true≢false (sym hides ∙ (ap (λ (c : Rec). is_hidden conflicts c.heard) (sym one) ∙ shows)))
+      absurd (true≢false (sym hides ∙ (ap (λ (c : Rec). is_hidden facts.conflicts c.heard) (sym one) ∙ shows)))
 
 -- behind a reply
-pub open_without : (conflicts : Conflicts) (records : List Rec) (event number : ℕ) (call : Rec) (old new : List ℕ) → AreInOrder records → IsAnswerAt records number call event
-    → AreOpen conflicts records event old → new ≡ without number old → AreOpen conflicts records (suc event) new
-open_without conflicts records event number call old new order answer before is i r y reply there heard hides within until = by_order (cases_lt r.call_at event) where
+pub open_without : (facts : Facts) (records : List Rec) (event number : ℕ) (call : Rec) (old new : List ℕ) → AreInOrder records → IsAnswerAt records number call event
+    → AreOpen facts.conflicts records event old → new ≡ without number old → AreOpen facts.conflicts records (suc event) new
+open_without facts records event number call old new order answer before is i r y reply there heard hides within until = by_order (cases_lt r.call_at event) where
   other : i ≡ number → ⊥
   other same =
       let one : r ≡ call = same_some r call (sym there ∙ (ap (slice_get records) same ∙ answer.at)) in
@@ -199,8 +199,8 @@ pub walk_stays : (d : Document) (event until : ℕ) (walk : Walk) → IsWalkAt d
     → ((i : ℕ) (r : Rec) (y : ℕ) (reply : Reply) → slice_get d.records.now i ≡ Some r → r.heard ≡ Some (y, reply) → y < until → y < event)
     → IsWalkAt d until walk
 walk_stays d event until walk is within calls replies = record {
-  table = subst (λ e. IsTableAt d.conflicts d.records.now e (table_of walk.front.items)) there
-      (stays_until d.conflicts d.records.now (until - event) event (table_of walk.front.items) is.table
+  table = subst (λ e. IsTableAt (facts_of d) d.records.now e (table_of walk.front.items)) there
+      (stays_until (facts_of d) d.records.now (until - event) event (table_of walk.front.items) is.table
       (λ i r at less. calls i r at (subst (λ e. r.call_at < e) there less))
       (λ i r y reply at heard less. replies i r y reply at heard (subst (λ e. y < e) there less)));
   positioned = is.positioned;
@@ -384,7 +384,7 @@ passes_reply d answers k made a walk is are at passed walked = record {
 
 -- where no row is left, the document is ruled out
 pub none_left : (d : Document) (answers : List AnsweredRec) (k : ℕ) (a : AnsweredRec) (call : Rec) (walk : Walk) → AreAnsweredCalls d.records.now answers → slice_get answers k ≡ Some a
-    → slice_get d.records.now a.rec ≡ Some call → IsWalkAt d (suc a.reply_at) walk → walk.front.items ≡ [] → IsRuledOut d.conflicts d.records.now call.no
+    → slice_get d.records.now a.rec ≡ Some call → IsWalkAt d (suc a.reply_at) walk → walk.front.items ≡ [] → IsRuledOut (facts_of d) d.records.now call.no
 none_left d answers k a call walk are at there walked empty =
     let answer = answer_at d.records.now answers k a are at in
     let one : answer.0 ≡ call = same_some answer.0 call (sym answer.1.at ∙ there) in
@@ -396,7 +396,7 @@ none_left d answers k a call walk are at there walked empty =
       replied = a.reply_at;
       reply = answer.1.reply;
       heard = ap (λ (r : Rec). r.heard) (sym one) ∙ answer.1.heard;
-      none = subst (λ rows. IsTableAt d.conflicts d.records.now (suc a.reply_at) (table_of rows)) empty walked.table;
+      none = subst (λ rows. IsTableAt (facts_of d) d.records.now (suc a.reply_at) (table_of rows)) empty walked.table;
     }
 
 -- a list without length has no items

@@ -18,7 +18,8 @@ use Rattle.events.specs.declared.record.Rec.{Rec}
 use Rattle.deciding.specs.Reported.{IsKnown, known_pairs}
 use Rattle.deciding.specs.Positions.{count_below, is_below}
 use Rattle.deciding.specs.Branches.{is_among}
-use Rattle.deciding.specs.aids.KnownPairs.{AreKnown, pair_cmp}
+use Rattle.write_chain.specs.Chain.{pair_cmp}
+use Rattle.deciding.specs.aids.KnownPairs.{AreKnown}
 use Rattle.deciding.proofs.Counts.{below_tested, pair_order, tested_below}
 use Rattle.deciding.proofs.OrderedPositions.{among_known, known_among}
 

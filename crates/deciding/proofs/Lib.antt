@@ -4,13 +4,14 @@ mod LostCounts
 pub mod OrderedSteps
 pub mod RecordOrder
 pub mod ReportedStates
-mod OrderedPositions
+pub mod OrderedPositions
 mod FittingBranches
 mod LostCalls
 mod PerformedCalls
 mod ServedCalls
 pub mod WalkLaws
 mod AboveLemmas
+mod EndLemmas
 mod BesideLemmas
 mod ItemLemmas
 mod KnownLemmas

@@ -1,5 +1,5 @@
 -- Writes without a reply and without a condition, before a place of an order that explains a document.
-use Rattle.std.proofs.Common.{ℕ, suc, ◌≡◌, ◌<◌, ◌≤◌, List, refl, sym, ◌∙◌, arith, Bool, true, false, cond, length, Some, slice_get}
+use Rattle.std.proofs.Common.{ℕ, suc, ◌≡◌, ◌<◌, ◌≤◌, refl, sym, ◌∙◌, arith, Bool, true, false, cond, length}
 use Rattle.std.proofs.lemmas.Bool.{and_from, and_parts, false_from_ne_true, lt-ltb, ltb-true}
 use Rattle.std.proofs.lemmas.Option.{slice_get_within}
 use Rattle.version_pair.proofs.ListLemmas.{get_within}
@@ -41,7 +41,7 @@ kinds_later x is z = count_within (is_kind_before x is z) (is_kind_before x is (
 place_of_record : (x : Explained) (z : ℕ) (p : Placed) (w : Rec) → IsRecordOf x z p w → place_in x.order w.no ≡ z
 place_of_record x z p w of =
     let q = place_found x.order w.no z p of.entry.at of.number in
-    x.explains.once (place_in x.order w.no) z q.0 p q.1 of.entry.at (q.2 ∙ sym of.number)
+    x.explains.is_order.once (place_in x.order w.no) z q.0 p q.1 of.entry.at (q.2 ∙ sym of.number)
 
 not_before : (x : Explained) (is : Rec → Bool) (z : ℕ) (p : Placed) (w : Rec) → IsRecordOf x z p w → is_kind_before x is z w ≡ false
 not_before x is z p w of =

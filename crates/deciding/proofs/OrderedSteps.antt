@@ -18,24 +18,38 @@ use Rattle.events.specs.declared.event.Event.{Event}
 use Rattle.events.specs.declared.record.Rec.{Rec}
 use Rattle.events.specs.Events.{IsCallAt, IsHistory, IsReplyAt, PassesAt, Precedes, is_call, records_of}
 use Rattle.events.specs.Laws.{IsSplitByDocument}
-use Rattle.events.specs.Order.{IsOfCall, Placed, run_of}
+use Rattle.events.specs.Order.{Explains, IsOfCall, Placed, run_of}
 use Rattle.events.proofs.EventLemmas.{same_call}
 use Rattle.events.proofs.HistoryLemmas.{call_passes}
 use Rattle.version_pair.proofs.ListLemmas.{compare, mapped_from, none_is_not_some, same_some}
 use Rattle.events.proofs.RecordLaws.{split_by_document}
-use Rattle.deciding.specs.Laws.{ExplainsWithin}
+use Rattle.deciding.specs.Facts.{Facts}
 use Rattle.deciding.specs.Reported.{IsListed}
 use Rattle.deciding.proofs.DocumentSteps.{IsTakenBefore, at_place, came, keeps, leaves_it, never_written, own_step, pair_reached}
 
 -- ---- a document that an order explains
 
 pub record Explained : Type 0 where
-  pub conflicts : Conflicts
+  pub facts : Facts
   pub events : List Event
   pub order : List Placed
   pub doc : List ℕ
   pub history : IsHistory events
-  pub explains : ExplainsWithin conflicts events doc order
+  pub explains : Explains facts.conflicts events order
+  -- the document takes no pair that another one has
+  pub apart : (i : ℕ) (p : Placed) (q : Pair) → slice_get order i ≡ Some p → p.entry.doc ≡ doc → pair_taken p.entry.reply p.entry.hidden ≡ Some q → facts.elsewhere q ≡ false
+
+-- a document of a history that an order explains, with nothing known of other documents
+abbrev pub explained_by : (conflicts : Conflicts) (events : List Event) (order : List Placed) (d : List ℕ) → IsHistory events → Explains conflicts events order → Explained
+explained_by conflicts events order d history explains = record {
+  facts = record { conflicts = conflicts; elsewhere = λ q. false };
+  events = events;
+  order = order;
+  doc = d;
+  history = history;
+  explains = explains;
+  apart = λ i p q at own takes. refl;
+}
 
 -- the records of the document
 abbrev pub recs : Explained → List Rec
@@ -56,7 +70,7 @@ pub record IsEntry (x : Explained) (i : ℕ) (p : Placed) : Type 0 where
 pub mapped_at : {X Y : Type 0} (f : X → Y) (xs : List X) (i : ℕ) (x : X) → slice_get xs i ≡ Some x → slice_get (map f xs) i ≡ Some (f x)
 mapped_at f xs i x at = slice_get-map f xs i ∙ ap (option_map f) at
 
-entry_at : (order : List Placed) (i : ℕ) (p : Placed) → slice_get order i ≡ Some p → slice_get (run_of order) i ≡ Some p.entry
+pub entry_at : (order : List Placed) (i : ℕ) (p : Placed) → slice_get order i ≡ Some p → slice_get (run_of order) i ≡ Some p.entry
 entry_at order i p at = mapped_at (λ (y : Placed). y.entry) order i p at
 
 pub step_at : (x : Explained) (i : ℕ) (p : Placed) → IsEntry x i p → DocStep (doc_at x i) p.entry.op p.entry.reply p.entry.hidden (doc_at x (suc i))
@@ -201,7 +215,7 @@ pub record IsRecordOf (x : Explained) (i : ℕ) (p : Placed) (r : Rec) : Type 0 
 pub of_record : (x : Explained) (i : ℕ) (p : Placed) (r : Rec) → slice_get x.order i ≡ Some p → IsListed (recs x) r → p.no ≡ r.no → IsRecordOf x i p r
 of_record x i p r at listed number =
     let call = call_of x listed.0 r listed.1 in
-    let of : IsOfCall x.events p = x.explains.calls i p at in
+    let of : IsOfCall x.events p = x.explains.is_order.calls i p at in
     let place : of.0 ≡ r.call_at = x.history.called_once r.no of.0 r.call_at
     (subst (λ n. PassesAt (is_call n) x.events of.0) number (call_passes x.events of.0 p.no p.entry.shard p.entry.doc p.entry.op of.1))
     (call_passes x.events r.call_at r.no call.0 x.doc r.op call.1) in
@@ -212,7 +226,7 @@ of_record x i p r at listed number =
 -- what stands in the order has a record
 pub record_of : (x : Explained) (i : ℕ) (p : Placed) → IsEntry x i p → (r : Rec) × IsRecordOf x i p r
 record_of x i p e =
-    let of : IsOfCall x.events p = x.explains.calls i p e.at in
+    let of : IsOfCall x.events p = x.explains.is_order.calls i p e.at in
     let call : IsCallAt x.events of.0 p.no p.entry.shard x.doc p.entry.op = subst (λ d. IsCallAt x.events of.0 p.no p.entry.shard d p.entry.op) e.doc of.1 in
     let r = (split x).recorded of.0 p.no p.entry.shard x.doc p.entry.op call in
     let own = (split x).of_call x.doc r.0 r.1 r.2 in
@@ -229,9 +243,9 @@ pub record IsAnswered (x : Explained) (r : Rec) (reply : Answer) : Type 0 where
 pub answered : (x : Explained) (r : Rec) (replied : ℕ) (reply : Answer) → IsListed (recs x) r → r.heard ≡ Some (replied, reply) → IsAnswered x r reply
 answered x r replied reply listed heard =
     let call = call_of x listed.0 r listed.1 in
-    let a = x.explains.answered replied r.call_at r.no call.0 r.op reply (heard_reported x listed.0 r replied reply listed.1 heard) call.1 in
+    let a = x.explains.is_order.answered replied r.no reply (heard_reported x listed.0 r replied reply listed.1 heard) in
     let q = place_found x.order r.no a.0 a.1 a.2 a.3 in
-    let place : place_in x.order r.no ≡ a.0 = x.explains.once (place_in x.order r.no) a.0 q.0 a.1 q.1 a.2 (q.2 ∙ sym a.3) in
+    let place : place_in x.order r.no ≡ a.0 = x.explains.is_order.once (place_in x.order r.no) a.0 q.0 a.1 q.1 a.2 (q.2 ∙ sym a.3) in
     let same : q.0 ≡ a.1 = same_some q.0 a.1 (sym q.1 ∙ (ap (slice_get x.order) place ∙ a.2)) in
     record {
       placed = q.0;
@@ -243,7 +257,7 @@ answered x r replied reply listed heard =
 pub same_reply : (x : Explained) (i : ℕ) (p : Placed) (r : Rec) (replied : ℕ) (reply : Answer) → IsRecordOf x i p r → r.heard ≡ Some (replied, reply) → p.entry.reply ≡ reply
 same_reply x i p r replied reply of heard =
     let a = answered x r replied reply of.listed heard in
-    let place : i ≡ place_in x.order r.no = x.explains.once i (place_in x.order r.no) p a.placed of.entry.at a.own.entry.at (of.number ∙ sym a.own.number) in
+    let place : i ≡ place_in x.order r.no = x.explains.is_order.once i (place_in x.order r.no) p a.placed of.entry.at a.own.entry.at (of.number ∙ sym a.own.number) in
     let same : p ≡ a.placed = same_some p a.placed (sym of.entry.at ∙ (ap (slice_get x.order) place ∙ a.own.entry.at)) in
     ap (λ (y : Placed). y.entry.reply) same ∙ a.replies
 

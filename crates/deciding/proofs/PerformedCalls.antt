@@ -40,24 +40,24 @@ pub record IsTakenAt (x : Explained) (z : ℕ) (q : Pair) : Type 0 where
 -- ---- what the reply shows
 
 -- a reply to a write that took a pair in the order shows the pair, or hides it
-pub shown_or_silent : (x : Explained) (z : ℕ) (q : Pair) (t : IsTakenAt x z q) → (pair_of t.call.heard ≡ Some q) ⊎ (IsSilent x.conflicts t.call.heard × (pair_of t.call.heard ≡ None))
+pub shown_or_silent : (x : Explained) (z : ℕ) (q : Pair) (t : IsTakenAt x z q) → (pair_of t.call.heard ≡ Some q) ⊎ (IsSilent x.facts.conflicts t.call.heard × (pair_of t.call.heard ≡ None))
 shown_or_silent x z q t = by_heard t.call.heard refl where
   shows : (y : ℕ) (reply : Answer) → t.call.heard ≡ Some (y, reply) → pair_taken reply t.placed.entry.hidden ≡ Some q
   shows y reply heard = ap (λ a. pair_taken a t.placed.entry.hidden) (sym (same_reply x z t.placed t.call y reply t.own heard)) ∙ t.takes
 
-  hides : (c : Conflicts) → x.conflicts ≡ c → (y : ℕ) → t.call.heard ≡ Some (y, Conflict) → is_hidden c (Some (y, Conflict)) ≡ true
+  hides : (c : Conflicts) → x.facts.conflicts ≡ c → (y : ℕ) → t.call.heard ≡ Some (y, Conflict) → is_hidden c (Some (y, Conflict)) ≡ true
   hides Plain is y heard =
-      let plain : t.placed.entry.hidden ≡ None = x.explains.plain is z t.placed t.own.entry.at in
+      let plain : t.placed.entry.hidden ≡ None = x.explains.is_order.plain is z t.placed t.own.entry.at in
       absurd (none_is_not_some q (sym plain ∙ shows y Conflict heard))
   hides Maybe is y heard = refl
 
-  by_heard : (o : Option (ℕ × Answer)) → t.call.heard ≡ o → (pair_of o ≡ Some q) ⊎ (IsSilent x.conflicts o × (pair_of o ≡ None))
+  by_heard : (o : Option (ℕ × Answer)) → t.call.heard ≡ o → (pair_of o ≡ Some q) ⊎ (IsSilent x.facts.conflicts o × (pair_of o ≡ None))
   by_heard None heard = inr (inl refl, refl)
   by_heard (Some (y, Indexed v created)) heard = inl (shows y (Indexed v created) heard)
   by_heard (Some (y, Deleted v found)) heard = inl (shows y (Deleted v found) heard)
   by_heard (Some (y, Found v k)) heard = absurd (none_is_not_some q (shows y (Found v k) heard))
   by_heard (Some (y, Missing)) heard = absurd (none_is_not_some q (shows y Missing heard))
-  by_heard (Some (y, Conflict)) heard = inr (inr (hides x.conflicts refl y heard), refl)
+  by_heard (Some (y, Conflict)) heard = inr (inr (hides x.facts.conflicts refl y heard), refl)
 
 -- ---- what a write leaves
 
@@ -91,8 +91,8 @@ leaves_at x z q t =
 -- ---- a call whose reply shows no pair
 
 -- a call that is silent about the pair that it took in the order may have taken it
-may_have_taken : (x : Explained) (z : ℕ) (q : Pair) (t : IsTakenAt x z q) → IsSilent x.conflicts t.call.heard → pair_of t.call.heard ≡ None
-    → MayHaveTaken x.conflicts (recs x) t.call q
+may_have_taken : (x : Explained) (z : ℕ) (q : Pair) (t : IsTakenAt x z q) → IsSilent x.facts.conflicts t.call.heard → pair_of t.call.heard ≡ None
+    → MayHaveTaken x.facts.conflicts (recs x) t.call q
 may_have_taken x z q t silent none = record {
   silent = silent;
   unreported = unreported;
@@ -146,7 +146,7 @@ no_get op s allowed is = subst (IsPerformed s) is allowed
 
 -- what takes a pair at a place at which a branch fits may be performed on it
 pub may_perform : (x : Explained) (event z : ℕ) (b : Branch) (q : Pair) (t : IsTakenAt x z q) → Fits x event z b → t.call.call_at < event
-    → MayPerform x.conflicts (recs x) event b t.own.listed.0 t.call q
+    → MayPerform x.facts (recs x) event b t.own.listed.0 t.call q
 may_perform x event z b q t fits called = record {
   at = t.own.listed.1;
   write = no_get t.call.op (doc_at x z) left.performs.allowed;
@@ -157,6 +157,7 @@ may_perform x event z b q t fits called = record {
       let a = state_at x f.call (Here q k) f.listed (ap (state_shown f.call.op) f.heard) in
       gives_number t.call.op q q k (sym (same_state x (suc z) a.0 (left.pair ∙ ap last_pair (sym a.1)) ∙ a.1) ∙ left.state)
       );
+  own = x.apart z t.placed q t.own.entry.at t.own.entry.doc t.takes;
   rises = above_least x z q b.least fits.least left.performs.rises;
   before = (let low : position_at x z ≤ taking_position (recs x) q = position_below x z q left.performs.rises in let same : position (recs x) b.least ≡ position_at x z = fits.place in omega arith);
   passed = λ v known below. (
@@ -188,7 +189,7 @@ may_perform x event z b q t fits called = record {
   left : Leaves x z q t.call.op
   left = leaves_at x z q t
 
-  by_reply : (pair_of t.call.heard ≡ Some q) ⊎ (IsSilent x.conflicts t.call.heard × (pair_of t.call.heard ≡ None)) → (pair_of t.call.heard ≡ Some q) ⊎ MayHaveTaken x.conflicts (recs x) t.call q
+  by_reply : (pair_of t.call.heard ≡ Some q) ⊎ (IsSilent x.facts.conflicts t.call.heard × (pair_of t.call.heard ≡ None)) → (pair_of t.call.heard ≡ Some q) ⊎ MayHaveTaken x.facts.conflicts (recs x) t.call q
   by_reply (inl shown) = inl shown
   by_reply (inr (silent, none)) = inr (may_have_taken x z q t silent none)
 
@@ -296,7 +297,7 @@ performed_fits x event z b q t fits called = record {
   by_spent j w i p at of (inr before) = let less : i < z = fits.spent j w i p before at of in omega arith
   by_spent j w i p at of (inl (always, same)) =
       let one : t.call ≡ w = same_some t.call w (sym t.own.listed.1 ∙ (ap (slice_get (recs x)) same ∙ at)) in
-      let place : i ≡ z = x.explains.once i z p t.placed of.entry.at t.own.entry.at (of.number ∙ (ap (λ (r : Rec). r.no) (sym one) ∙ sym t.own.number)) in
+      let place : i ≡ z = x.explains.is_order.once i z p t.placed of.entry.at t.own.entry.at (of.number ∙ (ap (λ (r : Rec). r.no) (sym one) ∙ sym t.own.number)) in
       omega arith
 
 -- ---- a place at which the document stays

@@ -5,7 +5,7 @@ use Rattle.doc_register.specs.declared.reply.Reply.{Reply as Answer}
 use Rattle.events.specs.declared.event.Event.{Event}
 use Rattle.events.specs.declared.event.Event.TheVariants.{Call, Reply}
 use Rattle.events.specs.declared.record.Rec.{Rec}
-use Rattle.events.specs.Events.{IsCallAt, IsHistory, IsReplyAt, PassesAt, is_call, records_of}
+use Rattle.events.specs.Events.{IsHistory, IsReplyAt, PassesAt, is_call, records_of}
 use Rattle.events.proofs.HistoryLemmas.{call_passes, reply_passes}
 use Rattle.events.proofs.RecordLaws.{split_by_document}
 use Rattle.deciding.specs.Records.{AreInOrder}

@@ -1,8 +1,8 @@
 -- Rows behind the steps of a row.
-use Rattle.std.proofs.Common.{ℕ, suc, ◌≡◌, ◌<◌, ◌≤◌, ◌⊎◌, ◌++◌, ◌==◌, ◌*◌, inl, inr, List, [], ◌∷◌, length, refl, sym, ap, subst, ◌∙◌, arith, Option, Some, None, slice_get}
+use Rattle.std.proofs.Common.{false, ℕ, suc, ◌≡◌, ◌<◌, ◌≤◌, ◌⊎◌, ◌++◌, ◌==◌, ◌*◌, inl, inr, List, [], ◌∷◌, length, refl, sym, ap, subst, ◌∙◌, arith, Option, Some, None, slice_get}
 use Rattle.version_pair.specs.declared.pair.Pair.{Pair}
 use Rattle.version_pair.proofs.ListLemmas.{get_front, get_last, get_snoc, none_is_not_some, same_some}
-use Rattle.doc_register.specs.declared.state.Conflicts.{Conflicts}
+use Rattle.deciding.specs.Facts.{Facts}
 use Rattle.events.specs.declared.record.Rec.{Rec}
 use Rattle.deciding.specs.declared.row.Row.{Row}
 use Rattle.version_pair.specs.PairOrder.{IsBelow}
@@ -49,21 +49,21 @@ pub branch_kept : (records : List Rec) (old new : List Row) (b : Branch) → Kee
 branch_kept records old new b keeps (row, has, covers) = (row, keeps.rows row has, covers)
 
 -- one more call was tried
-pub tried_more : (conflicts : Conflicts) (records : List Rec) (event : ℕ) (b : Branch) (q : Pair) (numbers : List ℕ) (i n : ℕ) (old new : List Row) → slice_get numbers i ≡ Some n
-    → ((k m : ℕ) → k < i → slice_get numbers k ≡ Some m → IsTried conflicts records event b m q old) → KeepsRows records old new → IsTried conflicts records event b n q new
-    → (k m : ℕ) → k < suc i → slice_get numbers k ≡ Some m → IsTried conflicts records event b m q new
-tried_more conflicts records event b q numbers i n old new at before keeps tried k m within is r may = by_order (cases_lt k i) where
+pub tried_more : (facts : Facts) (records : List Rec) (event : ℕ) (b : Branch) (q : Pair) (numbers : List ℕ) (i n : ℕ) (old new : List Row) → slice_get numbers i ≡ Some n
+    → ((k m : ℕ) → k < i → slice_get numbers k ≡ Some m → IsTried facts records event b m q old) → KeepsRows records old new → IsTried facts records event b n q new
+    → (k m : ℕ) → k < suc i → slice_get numbers k ≡ Some m → IsTried facts records event b m q new
+tried_more facts records event b q numbers i n old new at before keeps tried k m within is r may = by_order (cases_lt k i) where
   by_order : ((k < i) ⊎ (i ≤ k)) → HasRowFor records new (performed records event b m r q)
   by_order (inl first) = branch_kept records old new (performed records event b m r q) keeps (before k m first is r may)
   by_order (inr not) =
       let here : i ≡ k = omega (arith, within, not) in
       let same : n ≡ m = same_some n m (sym at ∙ (ap (slice_get numbers) here ∙ is)) in
-      subst (λ o. HasRowFor records new (performed records event b o r q)) same (tried r (subst (λ o. MayPerform conflicts records event b o r q) (sym same) may))
+      subst (λ o. HasRowFor records new (performed records event b o r q)) same (tried r (subst (λ o. MayPerform facts records event b o r q) (sym same) may))
 
--- where each candidate was tried, each call that may be performed has its step
-pub all_tried : (conflicts : Conflicts) (records : List Rec) (event : ℕ) (b : Branch) (q : Pair) (numbers : List ℕ) (rows : List Row) → AreCandidates conflicts records event b q numbers
-    → ((k m : ℕ) → slice_get numbers k ≡ Some m → IsTried conflicts records event b m q rows) → HasStepsWith conflicts records event b q rows
-all_tried conflicts records event b q numbers rows candidates tried j s may =
+-- if each candidate was tried, each call that may be performed has its step
+pub all_tried : (facts : Facts) (records : List Rec) (event : ℕ) (b : Branch) (q : Pair) (numbers : List ℕ) (rows : List Row) → AreCandidates facts records event b q numbers
+    → ((k m : ℕ) → slice_get numbers k ≡ Some m → IsTried facts records event b m q rows) → HasStepsWith facts records event b q rows
+all_tried facts records event b q numbers rows candidates tried j s may =
     let r = candidates j s may in
     subst (HasRowFor records rows) r.same (tried r.listed.0 r.number r.listed.1 r.call r.may)
 
@@ -75,9 +75,9 @@ not_passed records None v above within = omega (arith, within)
 not_passed records (Some l) v above within = let before = position_before records l v above in omega (arith, within, before)
 
 -- a pair that a call may take is the next known one, or an unknown one before it
-known_next : (conflicts : Conflicts) (records : List Rec) (event : ℕ) (b : Branch) (j : ℕ) (s : Rec) (q v : Pair) → MayPerform conflicts records event b j s q → IsKnown records q
+known_next : (facts : Facts) (records : List Rec) (event : ℕ) (b : Branch) (j : ℕ) (s : Rec) (q v : Pair) → MayPerform facts records event b j s q → IsKnown records q
     → IsKnown records v → IsAbove b.least v → ((u : Pair) → IsKnown records u → IsAbove b.least u → ¬ IsBelow u v) → v ≡ q
-known_next conflicts records event b j s q v may known is above least = by_order (pair_order v q) where
+known_next facts records event b j s q v may known is above least = by_order (pair_order v q) where
   by_order : IsBelow v q ⊎ ((v ≡ q) ⊎ IsBelow q v) → v ≡ q
   by_order (inr (inl same)) = same
   by_order (inr (inr lower)) = absurd (least q known may.rises lower)
@@ -101,15 +101,15 @@ reported_known records r q listed is = shown_known records q (record { call = r;
 found_known : (records : List Rec) (q : Pair) (k : ℕ) → IsFoundWith records q k → IsKnown records q
 found_known records q k f = shown_known records q (record { call = f.call; listed = f.listed; shows = inl (ap pair_shown f.heard) })
 
--- The least pair above that of a branch is free where an unknown one may be taken. So it may be taken too, and the branch
+-- The least pair above that of a branch is free if an unknown one may be taken. So it may be taken too, and the branch
 -- behind that is no worse.
-record IsLower (conflicts : Conflicts) (records : List Rec) (event : ℕ) (b : Branch) (j : ℕ) (s : Rec) (q f : Pair) : Type 0 where
-  pub may : MayPerform conflicts records event b j s f
+record IsLower (facts : Facts) (records : List Rec) (event : ℕ) (b : Branch) (j : ℕ) (s : Rec) (q f : Pair) : Type 0 where
+  pub may : MayPerform facts records event b j s f
   pub covers : Covers records (performed records event b j s f) (performed records event b j s q)
 
-lower_free : (conflicts : Conflicts) (records : List Rec) (event : ℕ) (b : Branch) (j : ℕ) (s : Rec) (q f : Pair) → MayPerform conflicts records event b j s q → (¬ IsKnown records q)
-    → (¬ IsKnown records f) → IsAbove b.least f → ((f ≡ q) ⊎ IsBelow f q) → IsLower conflicts records event b j s q f
-lower_free conflicts records event b j s q f may unknown free above lower = record {
+lower_free : (facts : Facts) (records : List Rec) (event : ℕ) (b : Branch) (j : ℕ) (s : Rec) (q f : Pair) → MayPerform facts records event b j s q → (¬ IsKnown records q)
+    → (¬ IsKnown records f) → facts.elsewhere f ≡ false → IsAbove b.least f → ((f ≡ q) ⊎ IsBelow f q) → IsLower facts records event b j s q f
+lower_free facts records event b j s q f may unknown free own above lower = record {
   may = record {
     at = may.at;
     write = may.write;
@@ -121,6 +121,7 @@ lower_free conflicts records event b j s q f may unknown free above lower = reco
       gives = λ known. absurd (free known);
     });
     found = λ k found. absurd (free (found_known records f k found));
+    own = own;
     rises = above;
     before = by_least b.least above;
     passed = λ v known below. may.passed v known (below_too v below lower);
@@ -144,9 +145,9 @@ lower_free conflicts records event b j s q f may unknown free above lower = reco
     makes = omega arith;
   };
 } where
-  taken : MayHaveTaken conflicts records s q
+  taken : MayHaveTaken facts.conflicts records s q
   taken = by_reply may.takes where
-    by_reply : (pair_of s.heard ≡ Some q) ⊎ MayHaveTaken conflicts records s q → MayHaveTaken conflicts records s q
+    by_reply : (pair_of s.heard ≡ Some q) ⊎ MayHaveTaken facts.conflicts records s q → MayHaveTaken facts.conflicts records s q
     by_reply (inl shows) = absurd (unknown (reported_known records s q (j, may.at) shows))
     by_reply (inr is) = is
 
@@ -208,11 +209,11 @@ covers_on records a b c one two = record {
   makes = (let first : a.makes ≤ b.makes = one.makes in let second : b.makes ≤ c.makes = two.makes in omega (arith, first, second));
 }
 
--- where the steps with the next known pair and with the least free one are in the list, all steps are covered
-pub all_steps : (conflicts : Conflicts) (records : List Rec) (event : ℕ) (b : Branch) (known free : Option Pair) (rows : List Row) → IsNextKnown records b.least known
-    → IsFreeAbove records b.least free → HasStepsWithSome conflicts records event b known rows → HasStepsWithSome conflicts records event b free rows
-    → AreSteps conflicts records event b rows
-all_steps conflicts records event b known free rows next least with_known with_free j s q may = by_case (known_or_not records q) where
+-- if the steps with the next known pair and with the least free one are in the list, all steps are covered
+pub all_steps : (facts : Facts) (records : List Rec) (event : ℕ) (b : Branch) (known free : Option Pair) (rows : List Row) → IsNextKnown records b.least known
+    → IsFreeAbove facts records b.least free → HasStepsWithSome facts records event b known rows → HasStepsWithSome facts records event b free rows
+    → AreSteps facts records event b rows
+all_steps facts records event b known free rows next least with_known with_free j s q may = by_case (known_or_not records q) where
   covered : (f : Pair) → HasRowFor records rows (performed records event b j s f) → Covers records (performed records event b j s f) (performed records event b j s q)
       → HasRowFor records rows (performed records event b j s q)
   covered f (row, has, is) covers = (row, has, covers_on records (branch_of row) (performed records event b j s f) (performed records event b j s q) is covers)
@@ -220,20 +221,20 @@ all_steps conflicts records event b known free rows next least with_known with_f
   itself : Covers records (performed records event b j s q) (performed records event b j s q)
   itself = covers_itself records (performed records event b j s q)
 
-  by_known : IsKnown records q → (o : Option Pair) → IsNextKnown records b.least o → HasStepsWithSome conflicts records event b o rows
+  by_known : IsKnown records q → (o : Option Pair) → IsNextKnown records b.least o → HasStepsWithSome facts records event b o rows
       → HasRowFor records rows (performed records event b j s q)
   by_known is None none steps = absurd (none q is may.rises)
   by_known is (Some v) (listed, above, first) steps =
-      let same : v ≡ q = known_next conflicts records event b j s q v may is listed above first in
-      covered q (subst (λ p. HasRowFor records rows (performed records event b j s p)) same (steps j s (subst (MayPerform conflicts records event b j s) (sym same) may))) itself
+      let same : v ≡ q = known_next facts records event b j s q v may is listed above first in
+      covered q (subst (λ p. HasRowFor records rows (performed records event b j s p)) same (steps j s (subst (MayPerform facts records event b j s) (sym same) may))) itself
 
-  by_free : (¬ IsKnown records q) → (o : Option Pair) → IsFreeAbove records b.least o → HasStepsWithSome conflicts records event b o rows
+  by_free : (¬ IsKnown records q) → (o : Option Pair) → IsFreeAbove facts records b.least o → HasStepsWithSome facts records event b o rows
       → HasRowFor records rows (performed records event b j s q)
   by_free unknown None none steps =
-      let v = none q may.rises unknown in
+      let v = none q may.rises unknown may.own in
       absurd (not_passed records b.least v.0 v.2 (may.passed v.0 v.1 v.3))
-  by_free unknown (Some f) (is_free, above, first) steps =
-      let l = lower_free conflicts records event b j s q f may unknown is_free above (first q may.rises) in
+  by_free unknown (Some f) (is_free, own, above, first) steps =
+      let l = lower_free facts records event b j s q f may unknown is_free own above (first q may.rises may.own) in
       covered f (steps j s l.may) l.covers
 
   by_case : IsKnown records q ⊎ (¬ IsKnown records q) → HasRowFor records rows (performed records event b j s q)
@@ -241,10 +242,10 @@ all_steps conflicts records event b known free rows next least with_known with_f
   by_case (inr unknown) = by_free unknown free least with_free
 
 -- steps that are in a list are in one that kept its rows
-pub some_kept : (conflicts : Conflicts) (records : List Rec) (event : ℕ) (b : Branch) (o : Option Pair) (old new : List Row) → KeepsRows records old new
-    → HasStepsWithSome conflicts records event b o old → HasStepsWithSome conflicts records event b o new
-some_kept conflicts records event b None old new keeps steps = tt
-some_kept conflicts records event b (Some q) old new keeps steps = λ j r may. branch_kept records old new (performed records event b j r q) keeps (steps j r may)
+pub some_kept : (facts : Facts) (records : List Rec) (event : ℕ) (b : Branch) (o : Option Pair) (old new : List Row) → KeepsRows records old new
+    → HasStepsWithSome facts records event b o old → HasStepsWithSome facts records event b o new
+some_kept facts records event b None old new keeps steps = tt
+some_kept facts records event b (Some q) old new keeps steps = λ j r may. branch_kept records old new (performed records event b j r q) keeps (steps j r may)
 
 -- no row is in a list without rows
 pub none_positioned : (records : List Rec) (rows : List Row) → rows ≡ [] → ArePositioned records rows

@@ -2,7 +2,7 @@
 use Rattle.std.proofs.Common.{ℕ, suc, ◌≡◌, ◌≢◌, ◌<◌, ◌≤◌, ◌⊎◌, ◌++◌, ◌&&◌, inl, inr, List, [], ◌∷◌, length, refl, set, sym, ap, subst, ◌∙◌, arith, Bool, true, false, not, cond, Some, slice_get}
 use Rattle.std.proofs.lemmas.Bool.{cases_eq, cases_lt, not_from_false}
 use Rattle.version_pair.proofs.ListLemmas.{get_front, get_last, get_snoc, get_within, mapped_from, same_some, slice_get-set_other, slice_get-set_same}
-use Rattle.doc_register.specs.declared.state.Conflicts.{Conflicts}
+use Rattle.deciding.specs.Facts.{Facts}
 use Rattle.events.specs.declared.record.Rec.{Rec}
 use Rattle.deciding.specs.declared.row.Row.{Row}
 use Rattle.deciding.specs.Branches.{Branch, Covers, IsBranchOf, IsCovered, is_in, position}
@@ -108,20 +108,20 @@ tables_kept_on records a b c one two = record {
 pub positions_kept : (records : List Rec) (old new : ReplyTables) → KeepsTables records old new → HasPositions records new
 positions_kept records old new keeps = record { served = keeps.served.positioned; waiting = keeps.waiting.positioned }
 
--- a row is placed where it is with those that served, if it did, and with those that wait, if it does
-pub row_placed : (conflicts : Conflicts) (records : List Rec) (i : ℕ) (r : Rec) (row : Row) (middle new : ReplyTables) (served may : Bool)
-    → served ≡ is_served records i r (branch_of row) → may ≡ may_come_later conflicts records i r (branch_of row)
+-- a row is placed with those that served, if it did, and with those that wait, if it does
+pub row_placed : (facts : Facts) (records : List Rec) (i : ℕ) (r : Rec) (row : Row) (middle new : ReplyTables) (served may : Bool)
+    → served ≡ is_served records i r (branch_of row) → may ≡ may_come_later facts.conflicts records i r (branch_of row)
     → (served ≡ true → IsCovered records (table_of middle.served.items) (branch_of row)) → KeepsTables records middle new
-    → (not (served && not may) ≡ true → IsCovered records (table_of new.waiting.items) (branch_of row)) → IsPlacedIn conflicts records i r new row
-row_placed conflicts records i r row middle new served may is later serves keeps waits = record {
+    → (not (served && not may) ≡ true → IsCovered records (table_of new.waiting.items) (branch_of row)) → IsPlacedIn facts.conflicts records i r new row
+row_placed facts records i r row middle new served may is later serves keeps waits = record {
   serves = λ yes. covered_kept records middle.served.items new.served.items (branch_of row) keeps.served (serves (is ∙ yes));
   waits = λ no. waits (not_from_false (served && not may) (ap (λ b. b && not may) is ∙ (ap (λ b. is_served records i r (branch_of row) && not b) later ∙ no)));
 }
 
 -- and stays placed in tables that kept theirs
-pub placed_kept : (conflicts : Conflicts) (records : List Rec) (i : ℕ) (r : Rec) (row : Row) (old new : ReplyTables) → KeepsTables records old new
-    → IsPlacedIn conflicts records i r old row → IsPlacedIn conflicts records i r new row
-placed_kept conflicts records i r row old new keeps placed = record {
+pub placed_kept : (facts : Facts) (records : List Rec) (i : ℕ) (r : Rec) (row : Row) (old new : ReplyTables) → KeepsTables records old new
+    → IsPlacedIn facts.conflicts records i r old row → IsPlacedIn facts.conflicts records i r new row
+placed_kept facts records i r row old new keeps placed = record {
   serves = λ yes. covered_kept records old.served.items new.served.items (branch_of row) keeps.served (placed.serves yes);
   waits = λ no. grown_covers records old.waiting.items new.waiting.items (branch_of row) keeps.waiting (placed.waits no);
 }
@@ -129,23 +129,23 @@ placed_kept conflicts records i r row old new keeps placed = record {
 -- ---- all rows of a list
 
 -- one more row of the list is placed
-pub placed_more : (conflicts : Conflicts) (records : List Rec) (i : ℕ) (r : Rec) (rows : List Row) (n : ℕ) (row copy : Row) (old new : ReplyTables) → slice_get rows n ≡ Some row → branch_of copy ≡ branch_of row
-    → ((k : ℕ) (one : Row) → k < n → slice_get rows k ≡ Some one → IsPlacedIn conflicts records i r old one) → KeepsTables records old new → IsPlacedIn conflicts records i r new copy
-    → (k : ℕ) (one : Row) → k < suc n → slice_get rows k ≡ Some one → IsPlacedIn conflicts records i r new one
-placed_more conflicts records i r rows n row copy old new at same before keeps placed k one within is = by_order (cases_lt k n) where
-  by_order : ((k < n) ⊎ (n ≤ k)) → IsPlacedIn conflicts records i r new one
-  by_order (inl first) = placed_kept conflicts records i r one old new keeps (before k one first is)
+pub placed_more : (facts : Facts) (records : List Rec) (i : ℕ) (r : Rec) (rows : List Row) (n : ℕ) (row copy : Row) (old new : ReplyTables) → slice_get rows n ≡ Some row → branch_of copy ≡ branch_of row
+    → ((k : ℕ) (one : Row) → k < n → slice_get rows k ≡ Some one → IsPlacedIn facts.conflicts records i r old one) → KeepsTables records old new → IsPlacedIn facts.conflicts records i r new copy
+    → (k : ℕ) (one : Row) → k < suc n → slice_get rows k ≡ Some one → IsPlacedIn facts.conflicts records i r new one
+placed_more facts records i r rows n row copy old new at same before keeps placed k one within is = by_order (cases_lt k n) where
+  by_order : ((k < n) ⊎ (n ≤ k)) → IsPlacedIn facts.conflicts records i r new one
+  by_order (inl first) = placed_kept facts records i r one old new keeps (before k one first is)
   by_order (inr not) =
       let here : n ≡ k = omega (arith, within, not) in
       let whole : row ≡ one = same_some row one (sym at ∙ (ap (slice_get rows) here ∙ is)) in
-      subst (IsPlaced conflicts records i r (table_of new.served.items) (table_of new.waiting.items)) (same ∙ ap branch_of whole) placed
+      subst (IsPlaced facts.conflicts records i r (table_of new.served.items) (table_of new.waiting.items)) (same ∙ ap branch_of whole) placed
 
 -- ---- steps of rows that wait
 
 -- what is met stays met
-met_kept : (conflicts : Conflicts) (records : List Rec) (i : ℕ) (r : Rec) (b : Branch) (old new : ReplyTables) → KeepsTables records old new
-    → IsMet conflicts records i r (table_of old.served.items) (table_of old.waiting.items) b → IsMet conflicts records i r (table_of new.served.items) (table_of new.waiting.items) b
-met_kept conflicts records i r b old new keeps (a, covers, placed) = (
+met_kept : (facts : Facts) (records : List Rec) (i : ℕ) (r : Rec) (b : Branch) (old new : ReplyTables) → KeepsTables records old new
+    → IsMet facts.conflicts records i r (table_of old.served.items) (table_of old.waiting.items) b → IsMet facts.conflicts records i r (table_of new.served.items) (table_of new.waiting.items) b
+met_kept facts records i r b old new keeps (a, covers, placed) = (
   a,
   covers,
   record {
@@ -154,34 +154,34 @@ met_kept conflicts records i r b old new keeps (a, covers, placed) = (
   },
 )
 
-pub steps_kept : (conflicts : Conflicts) (records : List Rec) (event i : ℕ) (r : Rec) (row : Row) (old new : ReplyTables) → KeepsTables records old new
-    → AreStepsMet conflicts records event i r old row → AreStepsMet conflicts records event i r new row
-steps_kept conflicts records event i r row old new keeps met j s q may = met_kept conflicts records i r (performed records event (branch_of row) j s q) old new keeps (met j s q may)
+pub steps_kept : (facts : Facts) (records : List Rec) (event i : ℕ) (r : Rec) (row : Row) (old new : ReplyTables) → KeepsTables records old new
+    → AreStepsMet facts records event i r old row → AreStepsMet facts records event i r new row
+steps_kept facts records event i r row old new keeps met j s q may = met_kept facts records i r (performed records event (branch_of row) j s q) old new keeps (met j s q may)
 
--- where the rows behind the steps of a row are placed, its steps are met
-pub steps_met : (conflicts : Conflicts) (records : List Rec) (event i : ℕ) (r : Rec) (row : Row) (rows : List Row) (tables : ReplyTables) → AreSteps conflicts records event (branch_of row) rows
-    → ArePlacedIn conflicts records i r tables rows → AreStepsMet conflicts records event i r tables row
-steps_met conflicts records event i r row rows tables steps placed j s q may =
+-- if the rows behind the steps of a row are placed, its steps are met
+pub steps_met : (facts : Facts) (records : List Rec) (event i : ℕ) (r : Rec) (row : Row) (rows : List Row) (tables : ReplyTables) → AreSteps facts records event (branch_of row) rows
+    → ArePlacedIn facts.conflicts records i r tables rows → AreStepsMet facts records event i r tables row
+steps_met facts records event i r row rows tables steps placed j s q may =
     let step = steps j s q may in
     (branch_of step.0, step.2, placed step.1.0 step.0 step.1.1)
 
 -- the steps of one more row that waits are met
-pub closed_more : (conflicts : Conflicts) (records : List Rec) (event i : ℕ) (r : Rec) (n : ℕ) (row : Row) (old new : ReplyTables) → slice_get old.waiting.items n ≡ Some row
-    → ((k : ℕ) (one : Row) → k < n → slice_get old.waiting.items k ≡ Some one → AreStepsMet conflicts records event i r old one) → KeepsTables records old new
-    → AreStepsMet conflicts records event i r new row → (k : ℕ) (one : Row) → k < suc n → slice_get new.waiting.items k ≡ Some one → AreStepsMet conflicts records event i r new one
-closed_more conflicts records event i r n row old new at before keeps met k one within is = by_order (cases_lt k n) where
+pub closed_more : (facts : Facts) (records : List Rec) (event i : ℕ) (r : Rec) (n : ℕ) (row : Row) (old new : ReplyTables) → slice_get old.waiting.items n ≡ Some row
+    → ((k : ℕ) (one : Row) → k < n → slice_get old.waiting.items k ≡ Some one → AreStepsMet facts records event i r old one) → KeepsTables records old new
+    → AreStepsMet facts records event i r new row → (k : ℕ) (one : Row) → k < suc n → slice_get new.waiting.items k ≡ Some one → AreStepsMet facts records event i r new one
+closed_more facts records event i r n row old new at before keeps met k one within is = by_order (cases_lt k n) where
   inside : n < length old.waiting.items
   inside = slice_get_within old.waiting.items n row at
 
-  by_order : ((k < n) ⊎ (n ≤ k)) → AreStepsMet conflicts records event i r new one
+  by_order : ((k < n) ⊎ (n ≤ k)) → AreStepsMet facts records event i r new one
   by_order (inr not) =
       let here : n ≡ k = omega (arith, within, not) in
       let whole : row ≡ one = same_some row one (sym (keeps.waiting.rows n row at) ∙ (ap (slice_get new.waiting.items) here ∙ is)) in
-      subst (AreStepsMet conflicts records event i r new) whole met
+      subst (AreStepsMet facts records event i r new) whole met
   by_order (inl first) =
       let was = get_within old.waiting.items k (omega (arith, inside, first)) in
       let whole : was.0 ≡ one = same_some was.0 one (sym (keeps.waiting.rows k was.0 was.1) ∙ is) in
-      subst (AreStepsMet conflicts records event i r new) whole (steps_kept conflicts records event i r was.0 old new keeps (before k was.0 first was.1))
+      subst (AreStepsMet facts records event i r new) whole (steps_kept facts records event i r was.0 old new keeps (before k was.0 first was.1))
 
 -- ---- tables made of others
 
@@ -212,7 +212,7 @@ owing_more records number call rows n row old new at before keeps owes k one wit
       let whole : row ≡ one = same_some row one (sym at ∙ (ap (slice_get rows) here ∙ there)) in
       subst (IsOwingIn records number call new) whole owes
 
--- where each row of a table is owing in the next one, all that are left are
+-- if each row of a table is owing in the next one, all that are left are
 pub left_at_call : (records : List Rec) (number : ℕ) (call : Rec) (rows next : List Row) → ((k : ℕ) (one : Row) → slice_get rows k ≡ Some one → IsOwingIn records number call next one)
     → AreLeftAtCall records number call (table_of rows) (table_of next)
 left_at_call records number call rows next all b has past =
@@ -239,21 +239,21 @@ left_as_it_is records number call table unowed b has past = (
 )
 
 -- what is left behind a reply, from the tables at it
-pub left_at_reply : (conflicts : Conflicts) (records : List Rec) (event number : ℕ) (call : Rec) (front next : List Row) (tables : ReplyTables) → ArePlacedIn conflicts records number call tables front
-    → IsClosed conflicts records event number call tables → AreSettledIn records number tables.served.items next
-    → AreLeftAtReply conflicts records event number call (table_of front) (table_of next)
-left_at_reply conflicts records event number call front next tables placed closed settles = record {
+pub left_at_reply : (facts : Facts) (records : List Rec) (event number : ℕ) (call : Rec) (front next : List Row) (tables : ReplyTables) → ArePlacedIn facts.conflicts records number call tables front
+    → IsClosed facts records event number call tables → AreSettledIn records number tables.served.items next
+    → AreLeftAtReply facts records event number call (table_of front) (table_of next)
+left_at_reply facts records event number call front next tables placed closed settles = record {
   served = table_of tables.served.items;
   waiting = table_of tables.waiting.items;
   first = λ b has. (
       let row = row_of_branch front b has in
-      subst (IsMet conflicts records number call (table_of tables.served.items) (table_of tables.waiting.items)) row.2
+      subst (IsMet facts.conflicts records number call (table_of tables.served.items) (table_of tables.waiting.items)) row.2
       (branch_of row.0, covers_itself records (branch_of row.0), placed row.1.0 row.0 row.1.1)
       );
   steps = λ b has j s q may. (
       let row = row_of_branch tables.waiting.items b has in
-      subst (λ a. IsMet conflicts records number call (table_of tables.served.items) (table_of tables.waiting.items) (performed records event a j s q)) row.2
-      (closed row.1.0 row.0 row.1.1 j s q (subst (λ a. MayPerform conflicts records event a j s q) (sym row.2) may))
+      subst (λ a. IsMet facts.conflicts records number call (table_of tables.served.items) (table_of tables.waiting.items) (performed records event a j s q)) row.2
+      (closed row.1.0 row.0 row.1.1 j s q (subst (λ a. MayPerform facts records event a j s q) (sym row.2) may))
       );
   left = λ b has. (
       let row = row_of_branch tables.served.items b has in
@@ -266,6 +266,6 @@ pub no_rows : (records : List Rec) (tables : ReplyTables) → tables.served.item
 no_rows records tables one two = record { served = none_positioned records tables.served.items one; waiting = none_positioned records tables.waiting.items two }
 
 -- rows that are placed stay placed
-pub all_placed_kept : (conflicts : Conflicts) (records : List Rec) (i : ℕ) (r : Rec) (rows : List Row) (old new : ReplyTables) → KeepsTables records old new
-    → ArePlacedIn conflicts records i r old rows → ArePlacedIn conflicts records i r new rows
-all_placed_kept conflicts records i r rows old new keeps placed k row at = placed_kept conflicts records i r row old new keeps (placed k row at)
+pub all_placed_kept : (facts : Facts) (records : List Rec) (i : ℕ) (r : Rec) (rows : List Row) (old new : ReplyTables) → KeepsTables records old new
+    → ArePlacedIn facts.conflicts records i r old rows → ArePlacedIn facts.conflicts records i r new rows
+all_placed_kept facts records i r rows old new keeps placed k row at = placed_kept facts records i r row old new keeps (placed k row at)

@@ -1,31 +1,37 @@
 -- Tables of branches along a history that an order explains: in each table a branch fits. So a document that is ruled out
 -- has no order.
 use Rattle.std.proofs.Common.{ℕ, zero, suc, ◌≡◌, ◌≢◌, ◌<◌, ◌≤◌, ◌+◌, ◌⊎◌, ◌&&◌, inl, inr, List, [], ◌∷◌, refl, sym, ap, subst, ◌∙◌, arith, true, false, not, true≢false, Option, Some, None, slice_get, nat_le, nat_lt}
-use Rattle.std.proofs.lemmas.Bool.{cases_lt, cases_Bool, cases_eq, and_parts, and_cases, leb-true, leb-false, le-ltb, not-true, not-false}
+use Rattle.std.proofs.lemmas.Bool.{false_from_ne_true, cases_lt, cases_Bool, cases_eq, and_parts, and_cases, leb-true, leb-false, le-ltb, not-true, not-false}
 use Rattle.version_pair.specs.declared.pair.Pair.{Pair}
 use Rattle.version_pair.proofs.ListLemmas.{none_is_not_some, same_some}
 use Rattle.doc_register.specs.declared.reply.Reply.{Reply as Answer}
 use Rattle.doc_register.specs.declared.reply.Reply.TheVariants.{Indexed, Deleted, Found, Missing, Conflict}
-use Rattle.doc_register.specs.declared.op.Op.{Op}
 use Rattle.doc_register.specs.declared.state.Conflicts.{Conflicts}
 use Rattle.doc_register.specs.Register.{condition_of, last_pair}
 use Rattle.doc_register.specs.Run.{pair_taken}
 use Rattle.events.specs.declared.event.Event.{Event}
-use Rattle.events.specs.declared.event.Event.TheVariants.{Call, Reply}
 use Rattle.events.specs.declared.record.Rec.{Rec}
 use Rattle.events.specs.Heard.{pair_of}
 use Rattle.events.specs.Order.{Explains, Placed}
-use Rattle.events.proofs.HistoryLemmas.{call_passes, reply_passes}
 use Rattle.deciding.specs.Reported.{IsKnown, pair_shown}
+use Rattle.deciding.specs.Records.{AreInOrder}
 use Rattle.deciding.specs.Positions.{version_of}
 use Rattle.deciding.specs.Branches.{Branch, IsBranchOf, is_in, never_changed, position}
 use Rattle.deciding.specs.Steps.{is_hidden, is_owed, performed}
 use Rattle.deciding.specs.Tables.{AreLeftAtCall, AreLeftAtReply, IsNextTable, IsPlaced, IsTableAt, is_past, is_reachable, is_served, is_served_with, may_come_later, owing, settled}
-use Rattle.deciding.specs.Laws.{ExplainsWithin, OrderedAreNotRuledOut, RuledOutHaveNoOrder}
+use Rattle.deciding.specs.Laws.{IsElsewhere, RuledOutHaveNoOrder}
+use Rattle.doc_register.proofs.RunLaws.{no_pair_twice}
+use Rattle.deciding.proofs.ReportedStates.{known_taken}
+use Rattle.std.specs.Prelude.{option_map, option_and_then}
+use Rattle.events.specs.Order.{Explains, IsOfCall, run_of}
+use Rattle.events.specs.Events.{IsCallAt, IsHistory}
+use Rattle.deciding.proofs.OrderedSteps.{entry_at}
+use Rattle.doc_register.specs.Run.{taken, taken_at}
 use Rattle.deciding.proofs.Counts.{shown_known}
 use Rattle.deciding.proofs.DocumentSteps.{meets, met_pair}
-use Rattle.deciding.proofs.OrderedSteps.{Explained, IsRecordOf, IsTaken, answered, call_of, doc_at, heard_reported, place_in, record_of, recs, same_record, same_reply}
+use Rattle.deciding.proofs.OrderedSteps.{Explained, explained_by, IsRecordOf, IsTaken, answered, doc_at, place_in, record_of, recs, same_record, same_reply}
 use Rattle.deciding.proofs.OrderedPositions.{called_before, position_at, position_grows, position_known, taken_earlier}
+use Rattle.deciding.proofs.RecordOrder.{records_in_order}
 use Rattle.deciding.proofs.ReportedStates.{found_has, reported_step}
 use Rattle.deciding.proofs.FittingBranches.{Fits, Stays, Takes, covers_fits, in_some, in_without, never_fits, stays_or_takes}
 use Rattle.deciding.proofs.PerformedCalls.{IsTakenAt, leaves_at, may_perform, performed_fits, shown_or_silent}
@@ -33,29 +39,21 @@ use Rattle.deciding.proofs.ServedCalls.{IsBehind, Stands, before_place, end_of, 
 
 -- ---- the records of one event
 
-not_both : {m n h : ℕ} {d : List ℕ} {op : Op} {a : Answer} → Some (Reply m a) ≡ Some (Call h n d op) → ⊥
-not_both is = cc
-
-same_number : {m n : ℕ} {a b : Answer} → Some (Reply m a) ≡ Some (Reply n b) → m ≡ n
-same_number is = cc
+in_order : (x : Explained) → AreInOrder (recs x)
+in_order x = records_in_order x.events x.doc x.history
 
 -- no call is made at a reply
 never_both : (x : Explained) (i j : ℕ) (r s : Rec) (y : ℕ) (reply : Answer) → slice_get (recs x) i ≡ Some r → slice_get (recs x) j ≡ Some s → r.heard ≡ Some (y, reply) → s.call_at ≢ y
-never_both x i j r s y reply at bt heard same =
-    not_both (sym (heard_reported x i r y reply at heard) ∙ (ap (slice_get x.events) (sym same) ∙ (call_of x j s bt).1))
+never_both x = (in_order x).apart
 
 -- one event answers one call
 one_answered : (x : Explained) (i j : ℕ) (r s : Rec) (y : ℕ) (a b : Answer) → slice_get (recs x) i ≡ Some r → slice_get (recs x) j ≡ Some s → r.heard ≡ Some (y, a) → s.heard ≡ Some (y, b) → r ≡ s
 one_answered x i j r s y a b at bt heard other =
-    same_record x i j r s at bt (same_number (sym (heard_reported x i r y a at heard) ∙ heard_reported x j s y b bt other))
+    same_some r s (sym at ∙ (ap (slice_get (recs x)) ((in_order x).once i j r s y a b at bt heard other) ∙ bt))
 
 -- a call is made before its reply
 called_first : (x : Explained) (i : ℕ) (r : Rec) (y : ℕ) (reply : Answer) → slice_get (recs x) i ≡ Some r → r.heard ≡ Some (y, reply) → r.call_at < y
-called_first x i r y reply at heard =
-    let call = call_of x i r at in
-    let earlier = x.history.ended_after_call r.no y (reply_passes x.events y r.no reply (heard_reported x i r y reply at heard)) in
-    let same : earlier.0 ≡ r.call_at = x.history.called_once r.no earlier.0 r.call_at earlier.2 (call_passes x.events r.call_at r.no call.0 x.doc r.op call.1) in
-    subst (λ n. n < y) same earlier.1
+called_first x = (in_order x).replies
 
 -- ---- behind a reply
 
@@ -99,7 +97,7 @@ settled_fits x index c event reply s z b fits over = record {
 
 -- what served the call is left behind its reply
 served_left : (x : Explained) (index : ℕ) (c : Rec) (event : ℕ) (reply : Answer) (s : Stands x index c event reply) (table next : List Branch)
-    → (left : AreLeftAtReply x.conflicts (recs x) event index c table next) → (z : ℕ) (b : Branch) → IsPlaced x.conflicts (recs x) index c left.served left.waiting b
+    → (left : AreLeftAtReply x.facts (recs x) event index c table next) → (z : ℕ) (b : Branch) → IsPlaced x.facts.conflicts (recs x) index c left.served left.waiting b
     → is_served (recs x) index c b ≡ true → Fits x event z b → IsOver x c z → FitsBehind x (suc event) next
 served_left x index c event reply s table next left z b placed served fits over =
     let a = placed.serves served in
@@ -113,7 +111,7 @@ served_left x index c event reply s table next left z b placed served fits over 
 behind_over : (x : Explained) (index : ℕ) (c : Rec) (event : ℕ) (reply : Answer) (s : Stands x index c event reply) (z : ℕ) → IsBehind x index c event reply s z → IsOver x c z
 behind_over x index c event reply s z behind i p q of from takes =
     let j : ℕ = place_in x.order c.no in
-    let here : i ≡ j = x.explains.once i j p s.answered.placed of.entry.at s.answered.own.entry.at (of.number ∙ sym s.answered.own.number) in
+    let here : i ≡ j = x.explains.is_order.once i j p s.answered.placed of.entry.at s.answered.own.entry.at (of.number ∙ sym s.answered.own.number) in
     let one : p ≡ s.answered.placed = same_some p s.answered.placed (sym of.entry.at ∙ (ap (slice_get x.order) here ∙ s.answered.own.entry.at)) in
     let own : taken_in x index c event reply s ≡ Some q = ap (λ (y : Placed). pair_taken y.entry.reply y.entry.hidden) (sym one) ∙ takes in
     let before : j < z = before_place (taken_in x index c event reply s) j z q own behind in
@@ -131,7 +129,7 @@ shown_over x event z b v i p c fits known served of from takes =
 
 -- a conflict that can't be performed any more is over
 conflict_over : (x : Explained) (index : ℕ) (c : Rec) (event z : ℕ) (b : Branch) → slice_get (recs x) index ≡ Some c → c.heard ≡ Some (event, Conflict) → Fits x event z b
-    → may_come_later x.conflicts (recs x) index c b ≡ false → IsOver x c z
+    → may_come_later x.facts.conflicts (recs x) index c b ≡ false → IsOver x c z
 conflict_over x index c event z b at heard fits done i p q of from takes =
     by_hidden (shown_or_silent x i q t) where
       t : IsTakenAt x i q
@@ -152,22 +150,22 @@ conflict_over x index c event z b at heard fits done i p q of from takes =
       by_part (inl spent) = let before : i < z = fits.spent index c i p (not-false (is_in index b.spent) spent) at of in omega (arith, before, from)
       by_part (inr none) = by_condition (condition_of c.op) refl none
 
-      by_cases : is_hidden x.conflicts c.heard ≡ true
-          → (is_hidden x.conflicts c.heard ≡ false) ⊎ ((not (is_in index b.spent) && is_reachable (recs x) (condition_of c.op) b) ≡ false) → ⊥
+      by_cases : is_hidden x.facts.conflicts c.heard ≡ true
+          → (is_hidden x.facts.conflicts c.heard ≡ false) ⊎ ((not (is_in index b.spent) && is_reachable (recs x) (condition_of c.op) b) ≡ false) → ⊥
       by_cases hides (inl shows) = true≢false (sym hides ∙ shows)
       by_cases hides (inr none) = by_part (and_cases (not (is_in index b.spent)) (is_reachable (recs x) (condition_of c.op) b) none)
 
-      by_silence : ((c.heard ≡ None) ⊎ (is_hidden x.conflicts c.heard ≡ true)) → ⊥
+      by_silence : ((c.heard ≡ None) ⊎ (is_hidden x.facts.conflicts c.heard ≡ true)) → ⊥
       by_silence (inl none) = none_is_not_some (event, Conflict) (sym none ∙ heard)
-      by_silence (inr hides) = by_cases hides (and_cases (is_hidden x.conflicts c.heard) (not (is_in index b.spent) && is_reachable (recs x) (condition_of c.op) b) done)
+      by_silence (inr hides) = by_cases hides (and_cases (is_hidden x.facts.conflicts c.heard) (not (is_in index b.spent) && is_reachable (recs x) (condition_of c.op) b) done)
 
-      by_hidden : (pair_of c.heard ≡ Some q) ⊎ (((c.heard ≡ None) ⊎ (is_hidden x.conflicts c.heard ≡ true)) × (pair_of c.heard ≡ None)) → ⊥
+      by_hidden : (pair_of c.heard ≡ Some q) ⊎ (((c.heard ≡ None) ⊎ (is_hidden x.facts.conflicts c.heard ≡ true)) × (pair_of c.heard ≡ None)) → ⊥
       by_hidden (inl shown) = none_is_not_some q (sym (ap pair_of heard) ∙ shown)
       by_hidden (inr (silent, none)) = by_silence silent
 
 -- a call that a branch served, and that can't be performed later, is over
 call_over : (x : Explained) (index : ℕ) (c : Rec) (event : ℕ) (reply : Answer) (s : Stands x index c event reply) (z : ℕ) (b : Branch) → Fits x event z b
-    → is_served_with (recs x) index c b (Some (event, reply)) ≡ true → may_come_later x.conflicts (recs x) index c b ≡ false → IsOver x c z
+    → is_served_with (recs x) index c b (Some (event, reply)) ≡ true → may_come_later x.facts.conflicts (recs x) index c b ≡ false → IsOver x c z
 call_over x index c event (Indexed v created) s z b fits served done i p q of from takes =
     let known : IsKnown (recs x) v = shown_known (recs x) v (record { call = c; listed = (index, s.at); shows = inl (ap pair_shown s.heard) }) in
     shown_over x event z b v i p c fits known served of from (ap (λ a. pair_taken a p.entry.hidden) (same_reply x i p c event (Indexed v created) of s.heard))
@@ -208,35 +206,35 @@ taken_here x z t = let w = record_of x z t.placed t.entry in record { placed = t
 
 -- a branch that fits at the end of the call served it
 ends_here : (x : Explained) (index : ℕ) (c : Rec) (event : ℕ) (reply : Answer) (s : Stands x index c event reply) (table next : List Branch)
-    (left : AreLeftAtReply x.conflicts (recs x) event index c table next) (z : ℕ) (b : Branch) → IsBehind x index c event reply s z
-    → IsPlaced x.conflicts (recs x) index c left.served left.waiting b → Fits x event z b → FitsBehind x (suc event) next
+    (left : AreLeftAtReply x.facts (recs x) event index c table next) (z : ℕ) (b : Branch) → IsBehind x index c event reply s z
+    → IsPlaced x.facts.conflicts (recs x) index c left.served left.waiting b → Fits x event z b → FitsBehind x (suc event) next
 ends_here x index c event reply s table next left z b behind placed fits =
     let served : is_served (recs x) index c b ≡ true = ap (is_served_with (recs x) index c b) s.heard ∙ served_behind x event z b index c event reply s fits behind in
     served_left x index c event reply s table next left z b placed served fits (behind_over x index c event reply s z behind)
 
 -- what the walk goes on with behind a place
 abbrev GoesOn : (x : Explained) (index : ℕ) (c : Rec) (event z : ℕ) (served waiting next : List Branch) → Type 0
-GoesOn x index c event z served waiting next = (a : Branch) → IsPlaced x.conflicts (recs x) index c served waiting a → Fits x event (suc z) a → FitsBehind x (suc event) next
+GoesOn x index c event z served waiting next = (a : Branch) → IsPlaced x.facts.conflicts (recs x) index c served waiting a → Fits x event (suc z) a → FitsBehind x (suc event) next
 
 -- a call is performed at a place before the end: the branch served the answered call and it is over, or it waits and makes this step
 at_step : (x : Explained) (index : ℕ) (c : Rec) (event : ℕ) (reply : Answer) (s : Stands x index c event reply) (table next : List Branch)
-    (left : AreLeftAtReply x.conflicts (recs x) event index c table next) (z : ℕ) (b : Branch) → z < end_of (taken_in x index c event reply s) (place_in x.order c.no)
-    → IsPlaced x.conflicts (recs x) index c left.served left.waiting b → Fits x event z b → Takes x z → GoesOn x index c event z left.served left.waiting next → FitsBehind x (suc event) next
+    (left : AreLeftAtReply x.facts (recs x) event index c table next) (z : ℕ) (b : Branch) → z < end_of (taken_in x index c event reply s) (place_in x.order c.no)
+    → IsPlaced x.facts.conflicts (recs x) index c left.served left.waiting b → Fits x event z b → Takes x z → GoesOn x index c event z left.served left.waiting next → FitsBehind x (suc event) next
 at_step x index c event reply s table next left z b before placed fits taken on =
-    by_test (cases_Bool (is_served (recs x) index c b && not (may_come_later x.conflicts (recs x) index c b))) where
+    by_test (cases_Bool (is_served (recs x) index c b && not (may_come_later x.facts.conflicts (recs x) index c b))) where
       t : IsTakenAt x z taken.pair
       t = taken_here x z taken
 
       called : t.call.call_at < event
       called = called_before_end x index c event reply s z t.placed t.call t.own before
 
-      by_test : ((is_served (recs x) index c b && not (may_come_later x.conflicts (recs x) index c b)) ≡ true)
-          ⊎ ((is_served (recs x) index c b && not (may_come_later x.conflicts (recs x) index c b)) ≡ false) → FitsBehind x (suc event) next
+      by_test : ((is_served (recs x) index c b && not (may_come_later x.facts.conflicts (recs x) index c b)) ≡ true)
+          ⊎ ((is_served (recs x) index c b && not (may_come_later x.facts.conflicts (recs x) index c b)) ≡ false) → FitsBehind x (suc event) next
       by_test (inl ends) =
-          let parts = and_parts (is_served (recs x) index c b) (not (may_come_later x.conflicts (recs x) index c b)) ends in
+          let parts = and_parts (is_served (recs x) index c b) (not (may_come_later x.facts.conflicts (recs x) index c b)) ends in
           let served : is_served_with (recs x) index c b (Some (event, reply)) ≡ true = sym (ap (is_served_with (recs x) index c b) s.heard) ∙ parts.0 in
           served_left x index c event reply s table next left z b placed parts.0 fits
-          (call_over x index c event reply s z b fits served (not-true (may_come_later x.conflicts (recs x) index c b) parts.1))
+          (call_over x index c event reply s z b fits served (not-true (may_come_later x.facts.conflicts (recs x) index c b) parts.1))
       by_test (inr goes) =
           let a = placed.waits goes in
           let fitting = covers_fits x event z a.0 b a.2 fits in
@@ -245,8 +243,8 @@ at_step x index c event reply s table next left z b before placed fits taken on 
 
 -- from a branch that fits at a place, along the order, to one that is left behind the reply
 along : (x : Explained) (index : ℕ) (c : Rec) (event : ℕ) (reply : Answer) (s : Stands x index c event reply) (table next : List Branch)
-    (left : AreLeftAtReply x.conflicts (recs x) event index c table next) (n z : ℕ) (b : Branch) → end_of (taken_in x index c event reply s) (place_in x.order c.no) ≤ z + n
-    → IsPlaced x.conflicts (recs x) index c left.served left.waiting b → Fits x event z b → FitsBehind x (suc event) next
+    (left : AreLeftAtReply x.facts (recs x) event index c table next) (n z : ℕ) (b : Branch) → end_of (taken_in x index c event reply s) (place_in x.order c.no) ≤ z + n
+    → IsPlaced x.facts.conflicts (recs x) index c left.served left.waiting b → Fits x event z b → FitsBehind x (suc event) next
 along x index c event reply s table next left zero z b within placed fits = ends_here x index c event reply s table next left z b (omega (arith, within)) placed fits
 along x index c event reply s table next left (suc n) z b within placed fits =
     by_order (cases_lt z (end_of (taken_in x index c event reply s) (place_in x.order c.no))) (λ a on fitting. along x index c event reply s table next left n (suc z) a (omega (arith, within)) on fitting) where
@@ -266,7 +264,7 @@ stands : (x : Explained) (index : ℕ) (c : Rec) (event : ℕ) (reply : Answer) 
 stands x index c event reply at heard = record { at = at; heard = heard; answered = answered x c event reply (index, at) heard }
 
 behind_reply : (x : Explained) (index : ℕ) (c : Rec) (event : ℕ) (reply : Answer) (table next : List Branch) → slice_get (recs x) index ≡ Some c → c.heard ≡ Some (event, reply)
-    → AreLeftAtReply x.conflicts (recs x) event index c table next → FitsBehind x event table → FitsBehind x (suc event) next
+    → AreLeftAtReply x.facts (recs x) event index c table next → FitsBehind x event table → FitsBehind x (suc event) next
 behind_reply x index c event reply table next at heard left before =
     let s = stands x index c event reply at heard in
     let end : ℕ = end_of (taken_in x index c event reply s) (place_in x.order c.no) in
@@ -423,7 +421,7 @@ heard_or_not (r ∷ rs) event = by_first (heard_at_or_not r.heard event) (heard_
 -- ---- the laws
 
 -- a branch of the next table fits
-fits_next : (x : Explained) (event : ℕ) (table next : List Branch) → IsNextTable x.conflicts (recs x) event table next → FitsBehind x event table → FitsBehind x (suc event) next
+fits_next : (x : Explained) (event : ℕ) (table next : List Branch) → IsNextTable x.facts (recs x) event table next → FitsBehind x event table → FitsBehind x (suc event) next
 fits_next x event table next is before = by_call (made_or_not (recs x) event) (heard_or_not (recs x) event) where
   by_call : IsMadeAt (recs x) event ⊎ ((i : ℕ) (r : Rec) → slice_get (recs x) i ≡ Some r → r.call_at ≢ event)
       → IsHeardAt (recs x) event ⊎ ((i : ℕ) (r : Rec) (reply : Answer) → slice_get (recs x) i ≡ Some r → r.heard ≢ Some (event, reply)) → FitsBehind x (suc event) next
@@ -434,27 +432,46 @@ fits_next x event table next is before = by_call (made_or_not (recs x) event) (h
       record { place = before.place; branch = d.0; listed = d.1; fits = covers_fits x (suc event) before.place d.0 before.branch d.2 (quiet_fits x event before.place before.branch quiet before.fits) }
 
 -- in each table a branch fits
-fits_table : (x : Explained) (event : ℕ) (table : List Branch) → IsTableAt x.conflicts (recs x) event table → FitsBehind x event table
+fits_table : (x : Explained) (event : ℕ) (table : List Branch) → IsTableAt x.facts (recs x) event table → FitsBehind x event table
 fits_table x zero table (a, listed, covers) = record { place = zero; branch = a; listed = listed; fits = covers_fits x zero zero a never_changed covers (never_fits x) }
 fits_table x (suc event) table (before, was, next) = fits_next x event before table next (fits_table x event before was)
 
--- an order that explains a history explains each document
-explains_within : (conflicts : Conflicts) (events : List Event) (d : List ℕ) (order : List Placed) → Explains conflicts events order → ExplainsWithin conflicts events d order
-explains_within conflicts events d order explains = record {
-  calls = explains.is_order.calls;
-  once = explains.is_order.once;
-  answered = λ k j n h op r replies called. explains.is_order.answered k n r replies;
-  plain = explains.is_order.plain;
-  respects = explains.respects;
-  legal = explains.legal;
-}
+-- ---- documents of one shard
 
-pub ordered_are_not_ruled_out : OrderedAreNotRuledOut
-ordered_are_not_ruled_out conflicts events d order n history explains ruled =
-    let x : Explained = record { conflicts = conflicts; events = events; order = order; doc = d; history = history; explains = explains } in
-    let f = fits_table x (suc ruled.replied) [] ruled.none in
-    none_is_not_some f.branch f.listed.1
+-- what an entry takes in its shard
+taken_of : (order : List Placed) (i : ℕ) (p : Placed) (q : Pair) → slice_get order i ≡ Some p → pair_taken p.entry.reply p.entry.hidden ≡ Some q
+    → taken_at (run_of order) i ≡ Some (p.entry.shard, q)
+taken_of order i p q at takes = ap (option_and_then taken) (entry_at order i p at) ∙ ap (option_map (λ v. (p.entry.shard, v))) takes
+
+-- the document takes no pair that another document of its shard is known to have
+other_takes : (conflicts : Conflicts) (events : List Event) (order : List Placed) (d : List ℕ) (q : Pair) → IsHistory events → Explains conflicts events order
+    → IsElsewhere events d q → (i : ℕ) (p : Placed) → slice_get order i ≡ Some p → p.entry.doc ≡ d → pair_taken p.entry.reply p.entry.hidden ≡ Some q → ⊥
+other_takes conflicts events order d q history explains is i p at own takes =
+    let x = explained_by conflicts events order is.other history explains in
+    let t = known_taken x q is.known in
+    let a : IsOfCall events p = explains.is_order.calls i p at in
+    let b : IsOfCall events t.placed = explains.is_order.calls t.place t.placed t.entry.at in
+    let shard : p.entry.shard ≡ t.placed.entry.shard = is.shard a.0 b.0 p.no t.placed.no p.entry.shard t.placed.entry.shard p.entry.op t.placed.entry.op
+    (subst (λ e. IsCallAt events a.0 p.no p.entry.shard e p.entry.op) own a.1)
+    (subst (λ e. IsCallAt events b.0 t.placed.no t.placed.entry.shard e t.placed.entry.op) t.entry.doc b.1) in
+    let here = taken_of order i p q at takes in
+    let there = taken_of order t.place t.placed q t.entry.at t.takes in
+    let place : i ≡ t.place = no_pair_twice (run_of order) explains.legal i t.place (p.entry.shard, q) here (there ∙ ap (λ h. Some (h, q)) (sym shard)) in
+    let one : p ≡ t.placed = same_some p t.placed (sym at ∙ (ap (slice_get order) place ∙ t.entry.at)) in
+    is.differs (sym t.entry.doc ∙ (ap (λ (y : Placed). y.entry.doc) (sym one) ∙ own))
 
 pub ruled_out_have_no_order : RuledOutHaveNoOrder
-ruled_out_have_no_order conflicts events d n history ruled (order, explains) =
-    ordered_are_not_ruled_out conflicts events d order n history (explains_within conflicts events d order explains) ruled
+ruled_out_have_no_order facts events d n history elsewhere ruled (order, explains) =
+    let x : Explained = record {
+      facts = facts;
+      events = events;
+      order = order;
+      doc = d;
+      history = history;
+      explains = explains;
+      apart = λ i p q at own takes. (
+          false_from_ne_true (facts.elsewhere q) (λ is. other_takes facts.conflicts events order d q history explains (elsewhere q is) i p at own takes)
+          );
+    } in
+    let f = fits_table x (suc ruled.replied) [] ruled.none in
+    none_is_not_some f.branch f.listed.1

@@ -1,5 +1,7 @@
 pub mod Reported
 pub mod Records
+pub mod Facts
+pub mod Elsewhere
 pub mod Positions
 pub mod Branches
 pub mod Steps

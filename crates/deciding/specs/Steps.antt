@@ -9,6 +9,7 @@ use Rattle.doc_register.specs.declared.reply.Reply.TheVariants.{Indexed, Deleted
 use Rattle.doc_register.specs.declared.state.Conflicts.{Conflicts}
 use Rattle.doc_register.specs.declared.state.Conflicts.TheVariants.{Plain, Maybe}
 use Rattle.doc_register.specs.Register.{condition_of, value_of}
+use Rattle.deciding.specs.Facts.{Facts}
 use Rattle.events.specs.declared.record.Rec.{Rec}
 use Rattle.events.specs.Heard.{pair_of}
 use Rattle.deciding.specs.Reported.{IsFoundWith, IsKnown, IsReportedOf}
@@ -112,7 +113,7 @@ AgreesWith exists (Some (at, Conflict)) = ⊤
 
 -- The i-th call, r, may be performed on the branch before the event, with the pair q.
 -- Source: profile.
-pub record MayPerform (conflicts : Conflicts) (records : List Rec) (event : ℕ) (b : Branch) (i : ℕ) (r : Rec) (q : Pair) : Type 0 where
+pub record MayPerform (facts : Facts) (records : List Rec) (event : ℕ) (b : Branch) (i : ℕ) (r : Rec) (q : Pair) : Type 0 where
   -- r is the i-th call
   pub at : slice_get records i ≡ Some r
   -- it is a write
@@ -122,9 +123,11 @@ pub record MayPerform (conflicts : Conflicts) (records : List Rec) (event : ℕ)
   -- it was not answered before the event
   pub pending : (at : ℕ) (reply : Reply) → r.heard ≡ Some (at, reply) → event ≤ at
   -- its reply shows the pair, or shows none
-  pub takes : (pair_of r.heard ≡ Some q) ⊎ MayHaveTaken conflicts records r q
+  pub takes : (pair_of r.heard ≡ Some q) ⊎ MayHaveTaken facts.conflicts records r q
   -- it gives each number that was found with the pair
   pub found : (k : ℕ) → IsFoundWith records q k → value_of r.op ≡ Some k
+  -- no other document of the shard is known to have the pair
+  pub own : facts.elsewhere q ≡ false
   -- the pair is above that of the document's last change
   pub rises : IsAbove b.least q
   -- the document is at a position before the pair

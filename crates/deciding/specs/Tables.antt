@@ -7,6 +7,7 @@ use Rattle.doc_register.specs.declared.reply.Reply.{Reply}
 use Rattle.doc_register.specs.declared.reply.Reply.TheVariants.{Indexed, Deleted, Found, Missing, Conflict}
 use Rattle.doc_register.specs.declared.state.Conflicts.{Conflicts}
 use Rattle.doc_register.specs.Register.{condition_of}
+use Rattle.deciding.specs.Facts.{Facts}
 use Rattle.events.specs.declared.record.Rec.{Rec}
 use Rattle.deciding.specs.Reported.{known_pairs}
 use Rattle.deciding.specs.Positions.{version_of}
@@ -115,14 +116,14 @@ settled i b = record {
 -- The i-th call, r, is answered at the event: each branch makes steps until it served the call, and those that did are
 -- in the next table.
 -- Source: profile.
-pub record AreLeftAtReply (conflicts : Conflicts) (records : List Rec) (event i : ℕ) (r : Rec) (table next : List Branch) : Type 0 where
+pub record AreLeftAtReply (facts : Facts) (records : List Rec) (event i : ℕ) (r : Rec) (table next : List Branch) : Type 0 where
   pub served : List Branch
   pub waiting : List Branch
   -- what may be before the reply
-  pub first : (b : Branch) → IsBranchOf table b → IsMet conflicts records i r served waiting b
+  pub first : (b : Branch) → IsBranchOf table b → IsMet facts.conflicts records i r served waiting b
   -- each step of each branch that waits
-  pub steps : (b : Branch) → IsBranchOf waiting b → (j : ℕ) (s : Rec) (q : Pair) → MayPerform conflicts records event b j s q
-      → IsMet conflicts records i r served waiting (performed records event b j s q)
+  pub steps : (b : Branch) → IsBranchOf waiting b → (j : ℕ) (s : Rec) (q : Pair) → MayPerform facts records event b j s q
+      → IsMet facts.conflicts records i r served waiting (performed records event b j s q)
   -- what served the call is left
   pub left : (b : Branch) → IsBranchOf served b → IsCovered records next (settled i b)
 
@@ -130,12 +131,12 @@ pub record AreLeftAtReply (conflicts : Conflicts) (records : List Rec) (event i 
 
 -- From the table before the event to the one after it.
 -- Source: profile.
-pub record IsNextTable (conflicts : Conflicts) (records : List Rec) (event : ℕ) (table next : List Branch) : Type 0 where
+pub record IsNextTable (facts : Facts) (records : List Rec) (event : ℕ) (table next : List Branch) : Type 0 where
   -- a call of the document is made
   pub called : (i : ℕ) (r : Rec) → slice_get records i ≡ Some r → r.call_at ≡ event → AreLeftAtCall records i r table next
   -- one is answered
   pub answered : (i : ℕ) (r : Rec) (reply : Reply) → slice_get records i ≡ Some r → r.heard ≡ Some (event, reply)
-      → AreLeftAtReply conflicts records event i r table next
+      → AreLeftAtReply facts records event i r table next
   -- neither
   pub other : ((i : ℕ) (r : Rec) → slice_get records i ≡ Some r → r.call_at ≢ event)
       → ((i : ℕ) (r : Rec) (reply : Reply) → slice_get records i ≡ Some r → r.heard ≢ Some (event, reply))
@@ -143,15 +144,15 @@ pub record IsNextTable (conflicts : Conflicts) (records : List Rec) (event : ℕ
 
 -- the table has what the document may be before the event
 -- Source: profile.
-abbrev pub IsTableAt : Conflicts → List Rec → ℕ → List Branch → Type 0
-IsTableAt conflicts records zero table = IsCovered records table never_changed
-IsTableAt conflicts records (suc event) table = (before : List Branch) × IsTableAt conflicts records event before
-    × IsNextTable conflicts records event before table
+abbrev pub IsTableAt : Facts → List Rec → ℕ → List Branch → Type 0
+IsTableAt facts records zero table = IsCovered records table never_changed
+IsTableAt facts records (suc event) table = (before : List Branch) × IsTableAt facts records event before
+    × IsNextTable facts records event before table
 
 -- The document is ruled out at the call with the number no: there are tables along its events up to the reply to that
 -- call, and the one after that reply is empty.
 -- Source: profile.
-pub record IsRuledOut (conflicts : Conflicts) (records : List Rec) (no : ℕ) : Type 0 where
+pub record IsRuledOut (facts : Facts) (records : List Rec) (no : ℕ) : Type 0 where
   pub number : ℕ
   pub call : Rec
   -- the call is one of the records
@@ -163,4 +164,4 @@ pub record IsRuledOut (conflicts : Conflicts) (records : List Rec) (no : ℕ) : 
   -- it was answered
   pub heard : call.heard ≡ Some (replied, reply)
   -- no branch is left after its reply
-  pub none : IsTableAt conflicts records (suc replied) []
+  pub none : IsTableAt facts records (suc replied) []

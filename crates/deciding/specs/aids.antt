@@ -1,5 +1,6 @@
 pub mod Above
 pub mod Candidates
+pub mod Ends
 pub mod Groups
 pub mod KnownPairs
 pub mod Moments

@@ -2,10 +2,12 @@ ghost use Rattle.std.specs.Prelude.{◌≡◌, IfOk, IfSome};
 ghost use Rattle.deciding.specs.Records.{AreInOrder};
 ghost use Rattle.deciding.specs.Tables.{IsRuledOut};
 ghost use Rattle.deciding.specs.aids.Candidates.{IsDocument};
+ghost use Rattle.deciding.specs.Elsewhere.{is_kept};
 
 use crate::attempts::Attempts;
 use crate::budget::Budget;
 use crate::document::Document;
+use crate::elsewhere::Elsewhere;
 use crate::versions::Versions;
 use crate::walk::{Walk, first_without_row};
 use crate::writes::Writes;
@@ -22,13 +24,15 @@ pub fn ruled_out_at(
     alloc: Global,
     records: &[Rec],
     conflicts: Conflicts,
+    elsewhere: &Elsewhere,
     attempts: Attempts,
     budget: &mut Budget,
 ) -> Result<Option<u64>, NoMemory>
     // The records are in order, as those of a document of a history are.
     requires { AreInOrder records.now }
-    // The document is provably not linearizable at the call that is returned.
-    ensures { IfOk result (λ found. IfSome found (IsRuledOut conflicts records.now)) }
+    // The document is provably not linearizable at the call that is returned, since other documents of its shard are known
+    // to have these pairs.
+    ensures { IfOk result (λ found. IfSome found (IsRuledOut (record { conflicts = conflicts; elsewhere = is_kept elsewhere.now.ends }) records.now)) }
 {
     let answers = answers_of(alloc, records)?;
     let versions = Versions::of(alloc, records)?;
@@ -36,6 +40,7 @@ pub fn ruled_out_at(
     let document = Document {
         records,
         conflicts,
+        elsewhere,
         attempts,
         versions,
         writes,

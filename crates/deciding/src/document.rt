@@ -1,9 +1,10 @@
 ghost use Rattle.std.specs.Prelude.{◌≡◌, ◌++◌, IfOk, OnOk, ℕ};
 ghost use Rattle.std.specs.Option.{option_to_list};
-ghost use Rattle.deciding.specs.aids.Candidates.{AreCandidates, AreIn, AreLostIn, AreOpen, IsDocument, numbers_in};
+ghost use Rattle.deciding.specs.aids.Candidates.{AreCandidates, AreIn, AreLostIn, AreOpen, IsDocument, facts_of, numbers_in};
 ghost use Rattle.deciding.specs.aids.Rows.{IsPositioned, branch_of};
 
 use crate::attempts::Attempts;
+use crate::elsewhere::Elsewhere;
 use crate::groups::Entry;
 use crate::row::Row;
 use crate::version::FoundNumbers;
@@ -19,6 +20,7 @@ use version_pair::{NoMemory, Pair};
 pub struct Document<'a> {
     pub records: &'a [Rec],
     pub conflicts: Conflicts,
+    pub elsewhere: &'a Elsewhere,
     pub attempts: Attempts,
     pub versions: Versions,
     pub writes: Writes,
@@ -73,7 +75,7 @@ impl Document<'_> {
     ) -> Result<Vec<usize>, NoMemory>
         ensures { IfOk result (λ numbers. IsDocument self.now → IsPositioned self.now.records.now row.now
             → (event : ℕ) → AreOpen self.now.conflicts self.now.records.now event open.now
-            → AreCandidates self.now.conflicts self.now.records.now event (branch_of row.now) pair numbers.items) }
+            → AreCandidates (facts_of self.now) self.now.records.now event (branch_of row.now) pair numbers.items) }
     {
         let mut numbers = Vec::new(alloc);
         if self.versions.is_reported(pair) {

@@ -4,7 +4,7 @@ ghost use Rattle.events.specs.declared.record.Rec.{Rec as Record};
 ghost use Rattle.deciding.specs.Positions.{count_below, taking_position, version_of};
 ghost use Rattle.deciding.specs.Branches.{is_among, position};
 ghost use Rattle.deciding.specs.Reported.{condition_met, known_pairs, pair_shown};
-ghost use Rattle.deciding.specs.aids.KnownPairs.{AreKnown, IsFreeAbove, IsNextKnown};
+ghost use Rattle.deciding.specs.aids.KnownPairs.{AreKnown, IsNextKnown};
 
 use crate::above::least_above;
 use doc_register::Reply;
@@ -50,8 +50,10 @@ fn push_some(pairs: &mut Vec<Pair>, found: Option<Pair>) -> Result<(), NoMemory>
     Ok(())
 }
 
-// The pairs that replies show, in the order of the calls.
-fn shown_pairs(alloc: Global, records: &[Rec]) -> Result<Vec<Pair>, NoMemory>
+/// Returns the pairs that replies show to be pairs of changes of a document, in the order of its calls, each as often as
+/// a reply shows it.
+pub fn shown_pairs(alloc: Global, records: &[Rec]) -> Result<Vec<Pair>, NoMemory>
+    // These are the known pairs of the document.
     ensures { IfOk result (λ pairs. pairs.items ≡ known_pairs records.now) }
 {
     let mut pairs = Vec::new(alloc);
@@ -134,19 +136,5 @@ impl Known {
     {
         let least = least_above(lower)?;
         self.pairs.get(self.count_below(least)).copied()
-    }
-
-    /// Returns the least pair above the lower one, or the least of all if none is given. Returns `None` if
-    /// that pair is known, or if there is no such pair.
-    pub fn free_above(&self, lower: Option<Pair>) -> Option<Pair>
-        ensures { (records : List Record) → AreKnown records self.now.pairs.items
-            → IsFreeAbove records lower result }
-    {
-        let least = least_above(lower)?;
-        if self.contains(least) {
-            None
-        } else {
-            Some(least)
-        }
     }
 }

@@ -5,7 +5,8 @@
 //! let records = history.records(doc)?;
 //! let mut budget = Budget::new();
 //! // Option<u64>: the call at which the document is ruled out.
-//! let call = ruled_out_at(alloc, &records, Conflicts::Plain, Attempts::Once, &mut budget)?;
+//! let elsewhere = Elsewhere::of(alloc, &pairs_of_other_documents)?;
+//! let call = ruled_out_at(alloc, &records, Conflicts::Plain, &elsewhere, Attempts::Once, &mut budget)?;
 //! ```
 #![tactic(auto)]
 
@@ -14,6 +15,7 @@ mod attempts;
 mod budget;
 mod deciding;
 mod document;
+mod elsewhere;
 mod groups;
 mod known;
 pub mod laws;
@@ -33,3 +35,5 @@ mod writes;
 pub use attempts::Attempts;
 pub use budget::Budget;
 pub use deciding::ruled_out_at;
+pub use elsewhere::Elsewhere;
+pub use known::shown_pairs;

@@ -4,6 +4,7 @@ ghost use Rattle.std.specs.Prelude.{◌≡◌, ◌≤◌, ◌<◌, IfOk, IsTrue,
 ghost use Rattle.doc_register.specs.declared.reply.Reply.{Reply as Answer};
 ghost use Rattle.events.specs.declared.record.Rec.{Rec as Record};
 ghost use Rattle.deciding.specs.Branches.{Covers};
+ghost use Rattle.deciding.specs.Facts.{Facts};
 ghost use Rattle.deciding.specs.Steps.{AgreesWith, IsSilent, MayHaveTaken, MayPerform, is_conflict, is_lost_delete, is_lost_make, moved_at, performed, without};
 ghost use Rattle.deciding.specs.aids.KnownPairs.{AreKnown};
 ghost use Rattle.deciding.specs.aids.Moments.{HasMade};
@@ -165,8 +166,8 @@ pub fn may_perform(
     row: &Row,
     attempt: Attempt,
 ) -> bool
-    ensures { (records : List Record) → AreOf records versions.now → IsPositioned records row.now → HasMade records moment.now.event moment.now.made
-        → MayPerform conflicts records moment.now.event (branch_of row.now) attempt.number attempt.call attempt.pair → IsTrue result }
+    ensures { (facts : Facts) (records : List Record) → facts.conflicts ≡ conflicts → AreOf records versions.now → IsPositioned records row.now
+        → HasMade records moment.now.event moment.now.made → MayPerform facts records moment.now.event (branch_of row.now) attempt.number attempt.call attempt.pair → IsTrue result }
 {
     if !is_left(row, moment, attempt.call) {
         return false;

@@ -1,11 +1,13 @@
 //! All steps of a row.
 
 ghost use Rattle.std.specs.Prelude.{IfOk, OnOk};
-ghost use Rattle.deciding.specs.aids.Candidates.{IsDocument};
+ghost use Rattle.deciding.specs.aids.Candidates.{IsDocument, facts_of};
+ghost use Rattle.deciding.specs.aids.KnownPairs.{IsFreeAbove};
 ghost use Rattle.deciding.specs.aids.Moments.{IsMoment};
 ghost use Rattle.deciding.specs.aids.Rows.{IsPositioned, branch_of};
 ghost use Rattle.deciding.specs.aids.StepsOf.{ArePositioned, AreSteps, HasStepsWith, HasStepsWithSome, IsTried, KeepsRows};
 
+use crate::above::least_above;
 use crate::document::Document;
 use crate::moment::Moment;
 use crate::row::Row;
@@ -26,7 +28,7 @@ impl Document<'_> {
         ensures ok { OnOk result (IsDocument self.now → IsPositioned self.now.records.now row.now
             → IsMoment self.now.conflicts self.now.records.now moment.now
             → KeepsRows self.now.records.now rows.old.items rows.new.items
-            × IsTried self.now.conflicts self.now.records.now moment.now.event (branch_of row.now) number pair rows.new.items) }
+            × IsTried (facts_of self.now) self.now.records.now moment.now.event (branch_of row.now) number pair rows.new.items) }
     {
         let Some(call) = self.records.get(number).copied() else {
             return Ok(());
@@ -47,7 +49,19 @@ impl Document<'_> {
         Ok(())
     }
 
-    // Adds the rows after each call that may be performed on the row with the pair.
+    // The least pair above the lower one that is neither known nor elsewhere, unless a known pair is below it.
+    fn free_above(&self, lower: Option<Pair>) -> Option<Pair>
+        ensures { IsDocument self.now → IsFreeAbove (facts_of self.now) self.now.records.now lower result }
+    {
+        let free = self.elsewhere.free_from(least_above(lower)?)?;
+        match self.versions.known.next_known(lower) {
+            Some(next) if !free.is_below(next) => None,
+            _ => Some(free),
+        }
+    }
+
+    // Adds the rows after each call that may be performed on the row with the pair. There is none if another document is
+    // known to have the pair.
     fn push_steps(
         &self,
         rows: &mut Vec<Row>,
@@ -58,8 +72,11 @@ impl Document<'_> {
         ensures ok { OnOk result (IsDocument self.now → IsPositioned self.now.records.now row.now
             → IsMoment self.now.conflicts self.now.records.now moment.now
             → KeepsRows self.now.records.now rows.old.items rows.new.items
-            × HasStepsWith self.now.conflicts self.now.records.now moment.now.event (branch_of row.now) pair rows.new.items) }
+            × HasStepsWith (facts_of self.now) self.now.records.now moment.now.event (branch_of row.now) pair rows.new.items) }
     {
+        if self.elsewhere.contains(pair) {
+            return Ok(());
+        }
         let numbers = self.candidates(*rows.allocator(), row, pair, moment.pending)?;
         for i in 0..numbers.len() {
             self.push_step(rows, moment, row, numbers[i], pair)?;
@@ -78,7 +95,7 @@ impl Document<'_> {
         ensures ok { OnOk result (IsDocument self.now → IsPositioned self.now.records.now row.now
             → IsMoment self.now.conflicts self.now.records.now moment.now
             → KeepsRows self.now.records.now rows.old.items rows.new.items
-            × HasStepsWithSome self.now.conflicts self.now.records.now moment.now.event (branch_of row.now) pair rows.new.items) }
+            × HasStepsWithSome (facts_of self.now) self.now.records.now moment.now.event (branch_of row.now) pair rows.new.items) }
     {
         if let Some(pair) = pair {
             self.push_steps(rows, moment, row, pair)?;
@@ -91,12 +108,12 @@ impl Document<'_> {
         ensures { IfOk result (λ rows. IsDocument self.now → IsPositioned self.now.records.now row.now
             → IsMoment self.now.conflicts self.now.records.now moment.now
             → ArePositioned self.now.records.now rows.items
-            × AreSteps self.now.conflicts self.now.records.now moment.now.event (branch_of row.now) rows.items) }
+            × AreSteps (facts_of self.now) self.now.records.now moment.now.event (branch_of row.now) rows.items) }
     {
         let mut rows = Vec::new(alloc);
         let known = &self.versions.known;
         self.push_some_steps(&mut rows, moment, row, known.next_known(row.least))?;
-        self.push_some_steps(&mut rows, moment, row, known.free_above(row.least))?;
+        self.push_some_steps(&mut rows, moment, row, self.free_above(row.least))?;
         Ok(rows)
     }
 }

@@ -4,7 +4,7 @@ ghost use Rattle.std.specs.Prelude.{◌≡◌, IfOk, IfSome, IsTrue, List, OnOk,
 ghost use Rattle.events.specs.declared.record.Rec.{Rec as Record};
 ghost use Rattle.deciding.specs.Branches.{Covers, IsCovered};
 ghost use Rattle.deciding.specs.Tables.{settled};
-ghost use Rattle.deciding.specs.aids.Candidates.{IsDocument};
+ghost use Rattle.deciding.specs.aids.Candidates.{IsDocument, facts_of};
 ghost use Rattle.deciding.specs.aids.Moments.{IsMoment};
 ghost use Rattle.deciding.specs.aids.Rows.{IsPositioned, branch_of};
 ghost use Rattle.deciding.specs.aids.StepsOf.{ArePositioned};
@@ -212,7 +212,7 @@ impl ReplyTables {
         ensures { IfOk result (λ closed. IsDocument document.now → HasPositions document.now.records.now self.old
             → IsMoment document.now.conflicts document.now.records.now moment.now
             → KeepsTables document.now.records.now self.old self.new
-            × (closed ≡ true → IsClosed document.now.conflicts document.now.records.now moment.now.event number call self.new)) }
+            × (closed ≡ true → IsClosed (facts_of document.now) document.now.records.now moment.now.event number call self.new)) }
     {
         for next in 0..limit {
             let rows = match self.waiting.get(next) {

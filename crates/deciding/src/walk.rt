@@ -7,7 +7,7 @@ ghost use Rattle.write_chain.specs.AnsweredCalls.{AreAnsweredCalls};
 ghost use Rattle.deciding.specs.Steps.{is_owed};
 ghost use Rattle.deciding.specs.Tables.{AreLeftAtCall, IsRuledOut, owing};
 ghost use Rattle.deciding.specs.declared.document.Document.{Document as DocumentOf};
-ghost use Rattle.deciding.specs.aids.Candidates.{AreOpen, IsDocument};
+ghost use Rattle.deciding.specs.aids.Candidates.{AreOpen, IsDocument, facts_of};
 ghost use Rattle.deciding.specs.aids.KnownPairs.{AreKnown};
 ghost use Rattle.deciding.specs.aids.Rows.{IsPositioned, branch_of};
 ghost use Rattle.deciding.specs.aids.StepsOf.{ArePositioned};
@@ -240,7 +240,7 @@ pub fn first_without_row(
     requires sorted { AreAnsweredCalls document.now.records.now answers.now }
     requires within { All (λ answer. answer.rec < length document.now.records.now) answers.now }
     requires start { IsWalkAt document.now 0 walk.old }
-    ensures { IfOk result (λ found. IfSome found (IsRuledOut document.now.conflicts document.now.records.now)) }
+    ensures { IfOk result (λ found. IfSome found (IsRuledOut (facts_of document.now) document.now.records.now)) }
 {
     let mut made = 0;
     for answer in answers {

@@ -1,7 +1,7 @@
 -- All steps of a row.
 use Rattle.std.specs.Prelude.{◌≡◌, ⊤, ℕ, List, Option, None, Some, slice_get}
 use Rattle.version_pair.specs.declared.pair.Pair.{Pair}
-use Rattle.doc_register.specs.declared.state.Conflicts.{Conflicts}
+use Rattle.deciding.specs.Facts.{Facts}
 use Rattle.events.specs.declared.record.Rec.{Rec}
 use Rattle.deciding.specs.declared.row.Row.{Row}
 use Rattle.deciding.specs.Branches.{Branch, Covers}
@@ -26,19 +26,19 @@ pub record KeepsRows (records : List Rec) (old new : List Row) : Type 0 where
   pub positioned : ArePositioned records old → ArePositioned records new
 
 -- if the call may be performed with the pair, a row of the list covers the branch after that
-abbrev pub IsTried : Conflicts → List Rec → ℕ → Branch → ℕ → Pair → List Row → Type 0
-IsTried conflicts records event b number q rows = (r : Rec) → MayPerform conflicts records event b number r q → HasRowFor records rows (performed records event b number r q)
+abbrev pub IsTried : Facts → List Rec → ℕ → Branch → ℕ → Pair → List Row → Type 0
+IsTried facts records event b number q rows = (r : Rec) → MayPerform facts records event b number r q → HasRowFor records rows (performed records event b number r q)
 
 -- the branch after each call that may be performed with the pair is covered in the list
-abbrev pub HasStepsWith : Conflicts → List Rec → ℕ → Branch → Pair → List Row → Type 0
-HasStepsWith conflicts records event b q rows = (j : ℕ) → IsTried conflicts records event b j q rows
+abbrev pub HasStepsWith : Facts → List Rec → ℕ → Branch → Pair → List Row → Type 0
+HasStepsWith facts records event b q rows = (j : ℕ) → IsTried facts records event b j q rows
 
 -- if there is a pair, each call that may be performed with it has
-abbrev pub HasStepsWithSome : Conflicts → List Rec → ℕ → Branch → Option Pair → List Row → Type 0
-HasStepsWithSome conflicts records event b None rows = ⊤
-HasStepsWithSome conflicts records event b (Some q) rows = HasStepsWith conflicts records event b q rows
+abbrev pub HasStepsWithSome : Facts → List Rec → ℕ → Branch → Option Pair → List Row → Type 0
+HasStepsWithSome facts records event b None rows = ⊤
+HasStepsWithSome facts records event b (Some q) rows = HasStepsWith facts records event b q rows
 
 -- each step of the branch is covered by one of the list
-abbrev pub AreSteps : Conflicts → List Rec → ℕ → Branch → List Row → Type 0
-AreSteps conflicts records event b rows = (j : ℕ) (s : Rec) (q : Pair) → MayPerform conflicts records event b j s q
+abbrev pub AreSteps : Facts → List Rec → ℕ → Branch → List Row → Type 0
+AreSteps facts records event b rows = (j : ℕ) (s : Rec) (q : Pair) → MayPerform facts records event b j s q
     → HasRowFor records rows (performed records event b j s q)

@@ -2,6 +2,7 @@
 use Rattle.std.specs.Prelude.{◌≡◌, ℕ, List, Some, map, slice_get}
 use Rattle.version_pair.specs.declared.pair.Pair.{Pair}
 use Rattle.doc_register.specs.declared.state.Conflicts.{Conflicts}
+use Rattle.deciding.specs.Facts.{Facts}
 use Rattle.events.specs.declared.record.Rec.{Rec}
 use Rattle.deciding.specs.declared.row.Row.{Row}
 use Rattle.deciding.specs.declared.tables.ReplyTables.{ReplyTables}
@@ -54,10 +55,10 @@ abbrev pub ArePlacedIn : Conflicts → List Rec → ℕ → Rec → ReplyTables 
 ArePlacedIn conflicts records i r tables rows = (k : ℕ) (row : Row) → slice_get rows k ≡ Some row → IsPlacedIn conflicts records i r tables row
 
 -- the branch behind each step of the row is met in the tables
-abbrev pub AreStepsMet : Conflicts → List Rec → ℕ → ℕ → Rec → ReplyTables → Row → Type 0
-AreStepsMet conflicts records event i r tables row = (j : ℕ) (s : Rec) (q : Pair) → MayPerform conflicts records event (branch_of row) j s q
-    → IsMet conflicts records i r (table_of tables.served.items) (table_of tables.waiting.items) (performed records event (branch_of row) j s q)
+abbrev pub AreStepsMet : Facts → List Rec → ℕ → ℕ → Rec → ReplyTables → Row → Type 0
+AreStepsMet facts records event i r tables row = (j : ℕ) (s : Rec) (q : Pair) → MayPerform facts records event (branch_of row) j s q
+    → IsMet facts.conflicts records i r (table_of tables.served.items) (table_of tables.waiting.items) (performed records event (branch_of row) j s q)
 
 -- it is of each row that waits
-abbrev pub IsClosed : Conflicts → List Rec → ℕ → ℕ → Rec → ReplyTables → Type 0
-IsClosed conflicts records event i r tables = (k : ℕ) (row : Row) → slice_get tables.waiting.items k ≡ Some row → AreStepsMet conflicts records event i r tables row
+abbrev pub IsClosed : Facts → List Rec → ℕ → ℕ → Rec → ReplyTables → Type 0
+IsClosed facts records event i r tables = (k : ℕ) (row : Row) → slice_get tables.waiting.items k ≡ Some row → AreStepsMet facts records event i r tables row

@@ -7,7 +7,7 @@ use Rattle.deciding.specs.declared.row.Row.{Row}
 use Rattle.deciding.specs.declared.walk.Walk.{Walk}
 use Rattle.deciding.specs.Branches.{IsCovered, position}
 use Rattle.deciding.specs.Tables.{IsTableAt, is_past, owing, settled}
-use Rattle.deciding.specs.aids.Candidates.{AreOpen}
+use Rattle.deciding.specs.aids.Candidates.{AreOpen, facts_of}
 use Rattle.deciding.specs.aids.Moments.{HasMade}
 use Rattle.deciding.specs.aids.Rows.{branch_of}
 use Rattle.deciding.specs.aids.StepsOf.{ArePositioned}
@@ -29,7 +29,7 @@ pub record IsAnswerAt (records : List Rec) (number : ℕ) (call : Rec) (event : 
 
 -- the walk has a table of what the document may be before the event
 pub record IsWalkAt (d : Document) (event : ℕ) (walk : Walk) : Type 0 where
-  pub table : IsTableAt d.conflicts d.records.now event (table_of walk.front.items)
+  pub table : IsTableAt (facts_of d) d.records.now event (table_of walk.front.items)
   pub positioned : ArePositioned d.records.now walk.front.items
   pub open_ones : AreOpen d.conflicts d.records.now event walk.open.items
   pub made : HasMade d.records.now event walk.made

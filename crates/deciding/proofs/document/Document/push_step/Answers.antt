@@ -1,6 +1,7 @@
-use Rattle.std.proofs.Common.{◌≡◌, ◌∙◌, ◌++◌, ◌∷◌, [], Some, slice_get, sym, ap, subst, true≢false}
+use Rattle.std.proofs.Common.{refl, ◌≡◌, ◌∙◌, ◌++◌, ◌∷◌, [], Some, slice_get, sym, ap, subst, true≢false}
 use Rattle.version_pair.proofs.ListLemmas.{same_some}
 use Rattle.events.specs.declared.record.Rec.{Rec}
+use Rattle.deciding.specs.aids.Candidates.{facts_of}
 use Rattle.deciding.specs.Branches.{Covers}
 use Rattle.deciding.specs.Steps.{MayPerform, performed}
 use Rattle.deciding.specs.aids.Rows.{branch_of}
@@ -34,8 +35,8 @@ pub returns-else-may_perform : goal.returns-else-may_perform
 returns-else-may_perform c = record {
   ok = λ d placed moment. (
     same_rows records c.args.rows.now.items,
-    λ r may. absurd (true≢false (sym (c.may_perform.ensures records d.versions placed moment.made
-        (subst (λ (call : Rec). MayPerform c.args.self.now.conflicts records c.args.moment.now.event (branch_of c.args.row.now) c.args.number call c.args.pair) (sym (one r may.at)) may)) ∙ c.if-may_perform.false)),
+    λ r may. absurd (true≢false (sym (c.may_perform.ensures (facts_of c.args.self.now) records refl d.versions placed moment.made
+        (subst (λ (call : Rec). MayPerform (facts_of c.args.self.now) records c.args.moment.now.event (branch_of c.args.row.now) c.args.number call c.args.pair) (sym (one r may.at)) may)) ∙ c.if-may_perform.false)),
   );
 } where
   records : Rattle.std.proofs.Common.List Rec

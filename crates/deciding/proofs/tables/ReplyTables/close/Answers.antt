@@ -4,6 +4,7 @@ use Rattle.std.proofs.lemmas.Bool.{cases_lt}
 use Rattle.std.proofs.lemmas.Option.{slice_get_within}
 use Rattle.version_pair.proofs.ListLemmas.{get_within, none_is_not_some}
 use Rattle.events.specs.declared.record.Rec.{Rec}
+use Rattle.deciding.specs.aids.Candidates.{facts_of}
 use Rattle.deciding.specs.declared.row.Row.{Row}
 use Rattle.deciding.specs.aids.StepsOf.{ArePositioned}
 use Rattle.deciding.specs.aids.TablesOf.{ArePlacedIn}
@@ -18,8 +19,8 @@ loop-next-preserved c d has made =
     let steps = c.in_ok-rows-in-Some.ensures d (positions.waiting c.in-Some.row.now (c.loop-next.next, here)) made in
     let step = c.in_ok-place_all.ensures.ok d positions (subst (ArePositioned records) (sym c.deref-in-loop-next.ensures.value) steps.0) in (
       tables_kept_on records c.args.self.now c.loop-next.self c.place_all.new.self before.0 step.0,
-      λ k row within at. closed_more c.args.document.now.conflicts records c.args.moment.now.event c.args.number c.args.call c.loop-next.next c.in-Some.row.now c.loop-next.self c.place_all.new.self here before.1 step.0
-          (steps_met c.args.document.now.conflicts records c.args.moment.now.event c.args.number c.args.call c.in-Some.row.now c.in_ok-rows-in-Some.rows.items c.place_all.new.self steps.1
+      λ k row within at. closed_more (facts_of c.args.document.now) records c.args.moment.now.event c.args.number c.args.call c.loop-next.next c.in-Some.row.now c.loop-next.self c.place_all.new.self here before.1 step.0
+          (steps_met (facts_of c.args.document.now) records c.args.moment.now.event c.args.number c.args.call c.in-Some.row.now c.in_ok-rows-in-Some.rows.items c.place_all.new.self steps.1
           (subst (ArePlacedIn c.args.document.now.conflicts records c.args.number c.args.call c.place_all.new.self) c.deref-in-loop-next.ensures.value step.1))
           k row (omega (arith, within)) at,
     ) where

@@ -1,6 +1,7 @@
 use Rattle.std.proofs.Common.{◌≡◌, ◌<◌, ◌≤◌, List, length, Some, slice_get, refl, arith}
 use Rattle.std.proofs.lemmas.Option.{slice_get_within, slice_get_read}
 use Rattle.events.specs.declared.record.Rec.{Rec}
+use Rattle.deciding.specs.aids.Candidates.{facts_of}
 use Rattle.deciding.proofs.TableLemmas.{placed_more, positions_kept, tables_kept_on}
 use Rattle.deciding.proofs.tables.ReplyTables.place_all.Goals as goal
 
@@ -10,7 +11,7 @@ loop-i-preserved c d has all =
     let copy = c.in_ok-row.ensures in
     let step = c.in_ok-place.ensures.ok d (positions_kept records c.args.self.now c.loop-i.self before.0) (copy.1 records (all c.index-rows-i.result (c.loop-i.i, here))) in (
       tables_kept_on records c.args.self.now c.loop-i.self c.place.new.self before.0 step.0,
-      λ k row within at. placed_more c.args.document.now.conflicts records c.args.number c.args.call c.args.rows.now c.loop-i.i c.index-rows-i.result c.in_ok-row.row
+      λ k row within at. placed_more (facts_of c.args.document.now) records c.args.number c.args.call c.args.rows.now c.loop-i.i c.index-rows-i.result c.in_ok-row.row
           c.loop-i.self c.place.new.self here copy.0 before.1 step.0 step.1 k row (omega (arith, within)) at,
     ) where
       records : List Rec
