@@ -36,14 +36,14 @@ CALLS, MOST_SECONDS = 524_288, 40
 """How many calls the load makes, and how long it may try, beside what else the machine does."""
 
 CALLS_A_SECOND = 1_000_000 if len(os.sched_getaffinity(0)) >= 4 else 500_000
-"""How many calls a second it has to record: the page says how many on four processors."""
+"""How many calls a second it has to record; the page states how many on four processors."""
 
 SECONDS = 120
 """A run that takes longer has failed."""
 
 
 def ran(words, **how):
-    """How a command ends: its status, and what it wrote on both outputs."""
+    """Runs a command; returns its exit status, and its output on both streams."""
     done = subprocess.run(words, stdin=subprocess.DEVNULL, stdout=subprocess.PIPE, stderr=subprocess.STDOUT, text=True, timeout=SECONDS, **how)
     return done.returncode, done.stdout
 
@@ -97,7 +97,7 @@ class JavaTest(ProgramTest):
         return ["java", *named, "-cp", JavaTest.classes.name, name, *map(str, words)]
 
     def java(self, name, *words, program=None, **how):
-        """What a class writes, which ends well."""
+        """The output of a class, whose exit status is 0."""
         status, said = ran(self.words(name, *words, program=program), **how)
         self.assertEqual(status, 0, said)
         return said
@@ -107,13 +107,13 @@ class Compiled(JavaTest):
     """The recorder by itself."""
 
     def test_the_history_needs_nothing_else(self):
-        """One file, JDK 11, no other class."""
+        """It is one file for JDK 11, without another class."""
         status, said = ran(["javac", "--release", "11", "-d", self.folder, JAVA / "src" / "casbench" / "CasHistory.java"])
         self.assertEqual((status, said), (0, ""))
 
 
 class Lines(JavaTest):
-    """What stands in the file."""
+    """The text of the file."""
 
     def test_all_that_a_line_may_say(self):
         self.java("Cases", "lines", self.file)
@@ -141,7 +141,7 @@ class Lines(JavaTest):
             lines += [call, {"e": "reply", "n": call["n"], "status": status, "body": body}]
         lines += [{"note": "at the end", "e": "call", "n": 14, "id": "open", "op": "get"}, {"e": "lost", "n": 14}]
         self.assertEqual(events_of(self.file), lines)
-        # (the first call asks for a version that nobody wrote: the program reads all lines, and says so)
+        # (the condition of the first call is a version that nobody wrote: the program reads all lines, and doesn't refuse them)
         self.assertNotIn("refused", judged(self.program, self.file))
 
     def test_a_call_ends_once(self):
@@ -162,7 +162,7 @@ class Room(JavaTest):
     """Files that are full, and disks."""
 
     def test_a_file_that_is_full(self):
-        """What is open is lost before a call that has no line: the room of a write is three events, judged strictly two."""
+        """Open calls are lost before a call that has no line: the room of a write is three events, checked strictly two."""
         self.assertEqual(self.java("Cases", "full", self.file).splitlines(), ["true true false false false 2", self.file.name])
         self.assertEqual(endings_of(self.file), ["lost", "201 created"])
         self.assertEqual(judged(self.program, self.file, "--profile", "opensearch"), "yes docs=2 calls=2 left_out=1 gets=0")
@@ -178,7 +178,7 @@ class Room(JavaTest):
         self.assertEqual([it.get("id") for it in events_of(self.folder / "h-2.ndjson") if it["e"] == "call"], ["d", "e"])
 
     def test_a_disk_that_is_full(self):
-        """The lines that were written are whole, and the fault is told at the end."""
+        """The lines that were written are complete, and closing the history reports the fault."""
         limited = ["bash", "-c", 'ulimit -f 8; trap "" XFSZ; exec "$@"', "-", *self.words("Cases", "disk", self.file)]
         status, said = ran(limited)
         self.assertEqual(status, 0, said)
@@ -188,7 +188,7 @@ class Room(JavaTest):
         self.assertEqual([it.name for it in self.folder.iterdir()], [self.file.name])
 
     def test_a_load_that_goes_on(self):
-        """Files that become full under eight threads are explained, whose documents go on or are new ones."""
+        """Files that become full under eight threads are explained, with the same documents all along or with new ones."""
         self.java("Load", self.file, 8, 200_000, 1, "strict", "most=100000")
         self.assertEqual(judged(self.program, f"{self.file}-1", "--rule-out").split()[0], "yes")
         self.java("Load", self.file.with_name("r"), 8, 200_000, 1, "rotate", "most=10000", "new-documents")
@@ -200,11 +200,11 @@ class Room(JavaTest):
 
 
 class Speed(JavaTest):
-    """How many calls are recorded a second, until all is in the file."""
+    """How many calls a second are recorded, until all are in the file."""
 
     def rounds(self, threads):
-        """Loads, one after the other, until one is quick enough: the fastest one, in calls a second, and its file. Beside what else the
-        machine does, and before Java has compiled itself, some are slower."""
+        """Runs loads, one after the other, until one is fast enough; returns the calls a second of the fastest one, and its file. Some
+        are slower, while the machine does something else or before the JVM has compiled the code."""
         began, best = time.monotonic(), 0.0
         with subprocess.Popen(self.words("Load", self.file, threads, CALLS, 40, "strict"), stdout=subprocess.PIPE, text=True) as load:
             for line in load.stdout:
@@ -232,7 +232,7 @@ class CutOff(JavaTest):
     """Files that end early are histories."""
 
     def check_cut(self, text, size):
-        """What is left of a text behind its last whole line is cut off, and the rest is explained."""
+        """A text that is cut off after its last complete line is explained."""
         cut = self.folder / "cut.ndjson"
         cut.write_bytes(text[:size].rpartition(b"\n")[0] + b"\n")
         self.assertRegex(judged(self.program, cut, "--rule-out"), r"^yes docs=\d+ calls=\d+ left_out=\d+$")
@@ -260,10 +260,10 @@ class CutOff(JavaTest):
 
 
 class Verdicts(JavaTest):
-    """What assertExplained says."""
+    """The results of assertExplained."""
 
     def said(self, case, *options, program=None, **how):
-        """What a case says on both outputs."""
+        """The output of a case on both streams."""
         return self.java("Cases", case, self.folder / f"{case}-{len(list(self.folder.iterdir()))}.ndjson", *options, program=program, **how)
 
     def test_with_the_program(self):
@@ -296,7 +296,7 @@ class Verdicts(JavaTest):
 
 
     def test_where_no_process_may_be_started(self):
-        """Under a security manager, as tests of OpenSearch 2.x, the history is left, and a line says how to check it."""
+        """Under a security manager, as in tests of OpenSearch 2.x, the history is kept, and a line shows how to check it."""
         policy = self.folder / "policy"
         files = 'permission java.io.FilePermission "<<ALL FILES>>", "read,write,delete";'
         for more in ("", 'permission java.util.PropertyPermission "*", "read"; permission java.lang.RuntimePermission "getenv.*";'):
@@ -331,7 +331,7 @@ ENDINGS = {
     "bulk-refused-of-one-shard": ["void"] * 2,
     "bulk-refused-of-shards": ["lost"] * 2,
     "sources": ["201 created", "200 True", "200 updated", "200 True", "lost", "lost", "200 updated", "200 True", "200 True", "201 created"],
-    **dict.fromkeys([f"untellable-{it}" for it in range(3)], ["201 created"]),
+    **dict.fromkeys([f"unrecordable-{it}" for it in range(3)], ["201 created"]),
     **dict.fromkeys(["script", "pipeline", "other-pattern"], ["201 created"]),
     **dict.fromkeys([f"other-indices-{it}" for it in ("data-write-reindex", "data-write-update-byquery", "admin-delete")], ["201 created"]),
     **dict.fromkeys(["other-passes-1", "other-passes-2"], ["201 created", "200 True"]),
@@ -339,7 +339,7 @@ ENDINGS = {
 }
 
 class Clients(JavaTest):
-    """The recording client, on a node that answers as a row says."""
+    """The recording client, on a node with the answer of a row."""
 
     def test_rows(self):
         said = self.java("Clients", self.folder)
@@ -349,7 +349,7 @@ class Clients(JavaTest):
             with self.subTest(name):
                 self.assertEqual(endings_of(self.folder / name), wanted)
         ended = set(re.findall(r"^([a-z0-9-]+): ", said, re.MULTILINE))
-        self.assertEqual(ended - {"casbench"}, {it for it in ENDINGS if re.match("untell|script|pipe|several|other-(indices|pattern)", it)})
+        self.assertEqual(ended - {"casbench"}, {it for it in ENDINGS if re.match("unrecord|script|pipe|several|other-(indices|pattern)", it)})
 
     def test_what_calls_ask(self):
         self.java("Clients", self.folder)
@@ -363,7 +363,7 @@ class Clients(JavaTest):
         self.assertEqual((calls["several-shards"]["shard"], calls["created"]["node"]), (5, "node-1"))
 
     def test_numbers_of_sources(self):
-        """Equal sources have one number, and a get of what an update wrote shows that of all sources that nobody knows."""
+        """Equal sources have the same number, and a get of a version that an update wrote has that of all unknown sources."""
         self.java("Clients", self.folder)
         events = events_of(self.folder / "sources")
         written = [it["k"] for it in events if it["e"] == "call" and "k" in it]
@@ -381,7 +381,7 @@ FAULTS = ("STALE_READS", "LOST_WRITES", "UNCHECKED_CONDITIONS", "NUMBERS_TWICE")
 
 
 class Examples(JavaTest):
-    """A replicated map, whose faults are refuted and which is right without one."""
+    """A replicated map, which is refuted with each fault and explained without one."""
 
     def check_demonstration(self, fault, wanted):
         file = self.folder / fault
@@ -397,13 +397,13 @@ class Examples(JavaTest):
         self.run_subtests(lambda check, *words: check(*words), rows, workers=2)
 
     def test_of_a_cluster(self):
-        """The example of OpenSearch's own test, whose clients lose answers, checked as OpenSearch is."""
+        """The example for OpenSearch's own tests, whose clients lose answers, checked as OpenSearch is."""
         rows = [(it, self.check_on_map, "OnMap", it, "^failed: casbench check .*: refuted\n") for it in FAULTS]
         rows.append(("right", self.check_on_map, "OnMap", "NONE", "^passed\n$"))
         self.run_subtests(lambda check, *words: check(*words), rows, workers=2)
 
     def test_of_all_requests(self):
-        """The recording client, with updates by a part, bulk and multi-get too, whose answers may be lost."""
+        """The recording client, with partial updates, bulk and multi-get too, whose answers may be lost."""
         profile = ("--profile", "opensearch")
         rows = [(it, self.check_on_map, "Mixed", it, "^failed: casbench check .*: refuted\n", *profile) for it in FAULTS]
         rows += [("right", self.check_on_map, "Mixed", "NONE", "^passed\n$", *profile)]
@@ -423,7 +423,7 @@ class Examples(JavaTest):
         self.assertRegex(said, r"\[ +5 tests successful +\]")
 
     def test_page(self):
-        """The session of the folder's page prints what it shows."""
+        """The session of the folder's page prints what the page shows."""
         copied_checkout(self.program, self.folder)
         (session,) = sessions("recording/java/README.md")
         commands, wanted = parted(session)
@@ -432,7 +432,7 @@ class Examples(JavaTest):
         self.assertTrue(is_as_wanted(said, wanted), said)
 
     def test_gradle(self):
-        """The task passes over what is explained, and fails at what isn't, with what explain says, and at too few calls."""
+        """The task passes if each history is explained. It fails with the explanation if one isn't, and at too few calls."""
         if shutil.which("gradle") is None:
             self.skipTest("Debian's package gradle isn't here, so the task of Gradle was not run")
         (self.folder / "build.gradle").write_text(f"apply from: '{JAVA}/check-histories.gradle'\n")

@@ -165,7 +165,7 @@ class Recording:
         if self.proxy.port is None:
             raise AssertionError(f"the proxy doesn't start: {self.proxy.url}")
         self.proxy.addresses(len(others))
-        self.printed, self.told = self.proxy.printed, self.proxy.told
+        self.printed, self.errors = self.proxy.printed, self.proxy.errors
         # how much memory the proxy takes behind so many requests, in MiB
         self.began, self.ended, self.memory = time.monotonic(), None, []
         self.is_killed = False
@@ -187,9 +187,9 @@ class Recording:
         if self.proxy.process.poll() is None:
             self.proxy.process.terminate()
         self.proxy.process.wait(timeout=120)
-        for it in (self.printed, self.told):
+        for it in (self.printed, self.errors):
             it.thread.join(60)
-        return [line.rstrip("\n") for _, line in [*self.told.lines, *self.printed.lines] if not line.startswith("part-")][-12:]
+        return [line.rstrip("\n") for _, line in [*self.errors.lines, *self.printed.lines] if not line.startswith("part-")][-12:]
 
     def kill(self):
         """Kills the proxy at once."""
@@ -207,7 +207,7 @@ class Recording:
 
 
 def checked(program, text):
-    """What the program says of a text under the profile."""
+    """The output of a check of a text under the profile."""
     return subprocess.run([program, "check", "--profile", "opensearch"], input=text, stdout=subprocess.PIPE).stdout.decode().strip()
 
 
@@ -230,7 +230,7 @@ def first_shown(program, lines):
 
 
 class Row(NamedTuple):
-    """What is found of a recording: its name, how many seconds it took, how many requests and calls it has, what a check says of its parts, the
+    """The results of a recording: its name, how many seconds it took, how many requests and calls it has, the answers for its parts, the
     verdict of the watch, how many seconds that took, the memory, and whether that is judged; and what is wrong."""
 
     name: str

@@ -1,10 +1,10 @@
 #!/usr/bin/env python3
-"""Tests examples/opensearch: its compose file, its plans, what moves a primary, and ./try on the stand-in in the place of OpenSearch.
+"""Tests examples/opensearch: its compose file, its plans, move_primary.py, and ./try on the stand-in instead of OpenSearch.
 
     python3 tests/opensearch_example.py [PROGRAM]
 
 PROGRAM is the built casbench; if it isn't named, the one that ./casbench would run. Without Debian's docker-compose the compose file isn't
-read; a line says so. No engine is asked, and no image is fetched. The last line says how many tests passed and failed.
+read; a line says so. No docker engine is used, and no image is fetched. The last line says how many tests passed and failed.
 """
 
 import contextlib
@@ -37,7 +37,7 @@ SECONDS, DETECTION = 180, 30
 
 
 def dry_run(program, out, *words):
-    """The status of a dry run, and what it prints."""
+    """The exit status of a dry run, and its output."""
     command = [sys.executable, EXAMPLE / "try", "--dry-run", "--program", program, "--seconds", "3", "--divide", "40", *words, out]
     ran = subprocess.run(command, env=environment(), stdin=subprocess.DEVNULL, stdout=subprocess.PIPE, stderr=subprocess.STDOUT, text=True, timeout=120)
     return ran.returncode, ran.stdout
@@ -47,14 +47,14 @@ class Compose(ProgramTest):
     """The compose file."""
 
     def config(self, *words, **more):
-        """What docker's compose reads."""
+        """The configuration that docker's compose reads."""
         command = ["docker-compose", "-f", COMPOSE, "config", *words]
         ran = subprocess.run(command, env=environment(**more), stdin=subprocess.DEVNULL, capture_output=True, text=True, timeout=60)
         self.assertEqual(ran.returncode, 0, ran.stderr)
         return ran.stdout
 
     def test_config(self):
-        """It is read, with each kind of security and with another version."""
+        """Compose reads it, without security, and with it and another version."""
         if shutil.which("docker-compose") is None:
             self.skipTest("Debian's package docker-compose isn't here, so the compose file was not read")
         self.assertEqual(self.config("--services").split(), ["node-1", "node-2", "node-3"])
@@ -64,7 +64,7 @@ class Compose(ProgramTest):
             self.assertEqual(len(re.findall(f"{line}\n", read)), 3)
 
     def test_nodes(self):
-        """Each node has the address of its own that it tells others, and a network with none of them for its clients."""
+        """Each node publishes an address of its own to the others, and its clients reach it by a network without them."""
         text = COMPOSE.read_text(encoding="utf-8")
         nodes = re.findall(r"container_name: casbench-(node-\d)\n(.*?)\n\n", text, re.DOTALL)
         self.assertEqual([name for name, _ in nodes], ["node-1", "node-2", "node-3"])
@@ -76,7 +76,7 @@ class Compose(ProgramTest):
 
 
 class Plans(ProgramTest):
-    """What is done to the nodes."""
+    """The plans, which disturb the nodes."""
 
     def test_each_plan(self):
         self.assertEqual([it.name for it in PLANS], ["cut", "kill", "move", "pause", "restart"])
@@ -89,7 +89,7 @@ class Plans(ProgramTest):
                         self.assertLessEqual(set(re.findall(r"casbench-\S+", command)), {"casbench-nodes", *(f"casbench-node-{it}" for it in (1, 2, 3))})
 
     def test_what_hangs_is_removed(self):
-        """A node that hangs or is cut off is so for longer than its removal takes, never node-1, and one at a time."""
+        """Nodes hang, or are cut off, for longer than their removal takes, one at a time and never node-1."""
         for name in ("pause", "cut"):
             plan = sorted(plan_of((EXAMPLE / "plans" / name).read_text(encoding="utf-8")), key=lambda it: it.after)
             with self.subTest(name):
@@ -97,20 +97,20 @@ class Plans(ProgramTest):
                 self.assertTrue(all(first.after + first.lasts + DETECTION < second.after for first, second in zip(plan, plan[1:])))
 
     def test_addresses(self):
-        """A node that is connected again has its address of before."""
+        """A node that is connected again has the same address as before."""
         again = re.findall(r"connect --ip (\S+) casbench-nodes casbench-(\S+)", (EXAMPLE / "plans" / "cut").read_text(encoding="utf-8"))
         self.assertEqual(again, [("172.28.57.12", "node-2"), ("172.28.57.13", "node-3")])
 
 
 MEMBERS = ("shard", "prirep", "state", "node")
-"""What a cluster says of each copy."""
+"""The members of each copy in an answer of `_cat/shards`."""
 
 
 class Moving(unittest.TestCase):
-    """What has a primary move, on a server that answers as the cluster's documentation says."""
+    """move_primary.py, on a server that answers as OpenSearch's documentation describes."""
 
     def served(self, shards):
-        """A server, until the test ends: its address, and what it is asked."""
+        """Starts a server, which runs until the test ends; returns its address, and the list of its requests."""
         asked = []
 
         class Node(http.server.BaseHTTPRequestHandler):
@@ -139,14 +139,14 @@ class Moving(unittest.TestCase):
         return f"http://127.0.0.1:{server.server_address[1]}", asked
 
     def moved(self, urls):
-        """The status, with these nodes."""
+        """The exit status with these nodes."""
         more = {"CASBENCH_NODES": ",".join(urls), "CASBENCH_INDEX": "carts", "OPENSEARCH_USER": "admin", "OPENSEARCH_PASSWORD": "secret"}
         command = [sys.executable, EXAMPLE / "move_primary.py", "0"]
         ran = subprocess.run(command, env=environment(**more), capture_output=True, text=True, timeout=60)
         return ran.returncode
 
     def test_the_node_that_has_it(self):
-        """The first node that answers is asked."""
+        """The requests go to the first node that answers."""
         rows = [("0", "r", "STARTED", "node-1"), ("1", "p", "STARTED", "node-1"), ("0", "p", "STARTED", "node-3")]
         url, asked = self.served([dict(zip(MEMBERS, it)) for it in rows])
         self.assertEqual(self.moved(["http://127.0.0.1:9", url]), 0)
@@ -163,7 +163,7 @@ class Moving(unittest.TestCase):
             self.assertEqual({it[0].partition("?")[0] for it in asked}, {"/_cat/shards/carts"})
 
 
-# What stands for docker: compose starts the stand-in as the cluster, with TLS if security is on; nodes aren't disturbed.
+# Stands in for docker: compose starts the stand-in as the cluster, with TLS if security is on; nodes aren't disturbed.
 DOCKER = """#!/bin/sh
 echo "$*" >>"$FAKE/asked"
 case "$*" in
@@ -178,10 +178,10 @@ esac
 
 
 class OnDocker(ProgramTest):
-    """./try on a docker that the test stands in for."""
+    """./try with a script that stands in for docker."""
 
     def tried(self, *words, **more):
-        """The status, what is printed, and what docker is asked."""
+        """The exit status, the output, and the arguments of each docker command."""
         with tempfile.TemporaryDirectory(prefix="casbench-try-") as folder:
             fake = pathlib.Path(folder)
             (fake / "docker").write_text(DOCKER)
@@ -204,7 +204,7 @@ class OnDocker(ProgramTest):
         self.assertLessEqual({f"kill {nodes}", f"start {nodes}"}, set(asked))
 
     def test_a_plan(self):
-        """The nodes are started and removed for each recording, and the plan's commands are run; with security, as admin, by TLS."""
+        """The nodes are started and removed for each recording, and the plan's commands are run; with security, as admin, over TLS."""
         rows = [("without", self.check_plan, [], {}), ("with", self.check_plan, ["--security"], {"OPENSEARCH_PASSWORD": "not-for-others"})]
         self.run_subtests(lambda check, *words: check(*words), rows, workers=2)
 
@@ -214,7 +214,7 @@ class OnDocker(ProgramTest):
 
 
 def free_row(count):
-    """The first of so many ports in a row that nobody listens on."""
+    """The first of this many consecutive free ports."""
     while True:
         first = int(free_ports(1)[0])
         try:
@@ -235,7 +235,7 @@ class DryRun(ProgramTest):
         self.folder = pathlib.Path(folder.name)
 
     def check(self, out, words, wanted, status, commands):
-        """The status, the verdicts of both recordings, and what the plan has asked of docker, if it was time for that."""
+        """Checks the exit status, the verdicts on both recordings, and that the plan has run these docker commands."""
         got, said = dry_run(self.program, self.folder / out, *words)
         profile = re.search("^[a-z]+, gets of any copy, check --profile opensearch: (.*)$", said, re.MULTILINE)
         strict = re.search("^[a-z]+, gets of the primary, check --rule-out: (.*)$", said, re.MULTILINE)
@@ -250,8 +250,8 @@ class DryRun(ProgramTest):
                 self.assertIn('"_primary_term":2', (self.folder / out / f"move-{it}.ndjson").read_text())
 
     def test_verdicts(self):
-        """A healthy cluster is explained under the profile, whatever is done to it; of a strict check that holds if nothing is done. One
-        that performs a write under a condition that isn't met is refuted by both."""
+        """A healthy cluster is explained under the profile, whatever is done to it, and by a strict check if nothing is done. One that
+        performs a write under a condition that isn't met is refuted by both."""
         fault = ["--plan", "none", "--stand-in", "--fault lost-update --every 3"]
         of_one = "docker {} casbench-node-2"
         rows = [
@@ -264,7 +264,7 @@ class DryRun(ProgramTest):
         self.run_subtests(lambda check, *words: check(*words), rows, workers=3)
 
     def test_matrix(self):
-        """A row for each plan, and the recordings beside each other."""
+        """The table has a row for each plan, and the folder has all recordings."""
         got, said = dry_run(self.program, self.folder / "matrix", "--matrix", "--plans", "none,restart")
         self.assertEqual(got, 0, said)
         rows = re.findall(r"^\| (\w+) \| `(\w+) docs=8 calls=\d+ left_out=\d+ gets=\d+` \| `(\w+) .*` \|$", said, re.MULTILINE)
@@ -273,7 +273,7 @@ class DryRun(ProgramTest):
         self.assertEqual(names, {f"{plan}-{gets}{it}.ndjson" for plan in ("none", "restart") for gets in ("any", "primary") for it in ("", "-load")})
 
     def test_faults_of_the_command(self):
-        """Words that are wrong, and a folder that is there."""
+        """Wrong arguments, and a folder that exists."""
         self.assertEqual(dry_run(self.program, self.folder / "x", "--plan", "nonesuch")[0], 2)
         self.assertEqual(dry_run(self.program, self.folder / "x", "--matrix", "--plans", "nonesuch")[0], 2)
         self.assertEqual(dry_run(self.program, self.folder)[0], 4)

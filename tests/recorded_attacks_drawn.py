@@ -35,7 +35,7 @@ ODD += [b"NaN", b"1e999", b"\xff", b"\xc3\xa9", b"\\u0061", b"\\ud800", b'"', b"
 ODD += [b"Transfer-Encoding: chunked\r\n", b"Expect: 100-continue\r\n", b"Content-Encoding: gzip\r\n", b"pipeline=p"]
 ODD += [b"&routing=x", b"\xed\xa0\x80", b"null"]
 
-# What is put in the place of a member that counts.
+# What replaces a member that counts.
 VALUES = [b"NaN", b"1e999", b"9" * 400, b"-0", b'"\\ud800"', b"[" * 130 + b"]" * 130, b"null", b"true"]
 MEMBER = re.compile(rb'("(?:_seq_no|_primary_term|result|found|type)": )[^,}]+')
 
@@ -184,9 +184,9 @@ class Attacked(AttackTest):
     made = 0
 
     def run_of(self, name, cluster, odds, count, is_cut_short):
-        """A run; what the program says of its history, what was left behind the clients, and how long the end took."""
+        """Makes a run; returns the answer for its history, what was left behind the clients, and how long the end took."""
         self.file = os.path.join(self.folder, f"{name}.ndjson")
-        # (where a cluster never ends its answer, that is what ends the wait for it)
+        # (if a cluster never ends its answer, that ends the wait for it)
         with cluster, self.proxy(cluster.url, "--idle", "4") as proxy, ThreadPoolExecutor(CLIENTS) as pool:
             before = self.before(proxy)
             timeout = 0.4 if odds or isinstance(cluster, Hostile) else 30
@@ -198,9 +198,9 @@ class Attacked(AttackTest):
                 self.made += sum(it.result() for it in runs)
                 left = self.left(proxy, before)
             seconds, taken, status = end_of(proxy)
-            said = proxy.told.read()
-        # (what isn't known of a request that is made up may end the recording, which is said)
-        self.assertEqual(status, 3 if "the recording ended early: " in said else 0)
+            errors = proxy.errors.read()
+        # (what isn't known of a request that is made up may end the recording, which is reported)
+        self.assertEqual(status, 3 if "the recording ended early: " in errors else 0)
         self.assertLess(taken, 1.0)
         return self.check() if os.path.exists(self.file) else "no call was made", left, seconds
 

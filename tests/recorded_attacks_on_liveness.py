@@ -319,7 +319,7 @@ class Stuck(AttackTest):
             return answer_of(200, {})
 
         class Dripping(Cluster):
-            """Drips where it is asked for the index."""
+            """Drips if the request is for the index."""
 
             def own(self, head):
                 if not is_dripping.is_set() or not head.startswith(b"GET /carts "):
@@ -440,12 +440,12 @@ class Files(AttackTest):
     """A history that somebody else writes to, cuts off or removes."""
 
     def recorded(self, do):
-        """What the proxy says where this is done to the file between two calls, its status, and what standard error said at once."""
+        """Does this to the file between two calls; returns the proxy's output, its status, and whether it reported an error at once."""
         with Cluster(lambda head, _: answer_of(201, performed())) as cluster, self.proxy(cluster.url) as proxy:
             with self.client(proxy) as client:
                 client.ask(request_of("PUT", "/carts/_doc/d", b"{}"))
                 do()
-                at_once = proxy.told.has_line(5)
+                at_once = proxy.errors.has_line(5)
                 self.assertEqual(client.ask(request_of("PUT", "/carts/_doc/e", b"{}"))[0], 201)
             said = proxy.ended()
             return said, proxy.process.returncode, at_once

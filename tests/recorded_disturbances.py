@@ -261,7 +261,7 @@ class Disturbed(LinesTest):
         self.assertRegex(out, "^recorded ")
         os.remove(self.file)
         proxy = self.proxy("--disturb", plan)
-        self.assertIn("the disturbance failed: ", proxy.told.readline())
+        self.assertIn("the disturbance failed: ", proxy.errors.readline())
         with Ask(proxy) as client:
             client.ask("PUT", "/carts/_doc/d", "{}")
         proxy.ended()
@@ -271,9 +271,9 @@ class Disturbed(LinesTest):
 
     def test_a_proxy_disturbs_nothing_before_it_has_reported_its_address(self):
         proxy = self.proxy("--disturb", self.plan("after 0 s: exit 7\n"), start=(sys.executable, "-c", LATE))
-        said = [proxy.url, proxy.told.readline().strip()]
-        self.assertRegex(said[0], r"^http://127\.0\.0\.1:\d+$")
-        self.assertEqual(said[1], "casbench_recording.proxy: the disturbance failed: exit 7: status 7")
+        lines = [proxy.url, proxy.errors.readline().strip()]
+        self.assertRegex(lines[0], r"^http://127\.0\.0\.1:\d+$")
+        self.assertEqual(lines[1], "casbench_recording.proxy: the disturbance failed: exit 7: status 7")
 
     def test_a_proxy_that_cannot_listen_disturbs_nothing(self):
         mark = self.path("mark")

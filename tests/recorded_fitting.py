@@ -1,5 +1,5 @@
 #!/usr/bin/env python3
-"""Tests which check a recording proxy says fits, by the copies of the index and the nodes of the cluster, and how its own watch checks.
+"""Tests which check a recording proxy reports, by the copies of the index and the nodes of the cluster, and how its own watch checks.
 
     python3 tests/recorded_fitting.py [PROGRAM]
 
@@ -40,7 +40,7 @@ class Indexes(unittest.TestCase):
 
     def test_copies_and_nodes(self):
         for name, wanted, settings, *more in (
-            ("nothing said", STRICT, {}),
+            ("nothing stated", STRICT, {}),
             ("one copy on one node", STRICT, {"index": {"number_of_replicas": "0"}}, 1),
             ("one copy, and no right to ask for the nodes", STRICT, {"number_of_replicas": 0}),
             ("one copy on several nodes", OPENSEARCH, {"number_of_replicas": 0}, 3),
@@ -84,7 +84,7 @@ class Nodes(unittest.TestCase):
 
     def test_faults(self):
         """They fail the inspection: a cluster of several nodes isn't taken for one."""
-        for answer, told in (
+        for answer, fault in (
             (None, "no answer came: timed out"),
             ((401, {"error": "x"}), "refuses who asks"),
             ((408, {"number_of_nodes": 3}), "answered with HTTP 408"),
@@ -93,12 +93,12 @@ class Nodes(unittest.TestCase):
             ((200, {"status": "green"}), "not what OpenSearch tells"),
             ((200, {"number_of_nodes": "many"}), "not what OpenSearch tells"),
         ):
-            with self.subTest(answer), self.assertRaisesRegex(ClusterError, told):
+            with self.subTest(answer), self.assertRaisesRegex(ClusterError, fault):
                 Inspector(HealthAnswer(answer)).look("carts")
 
 
 class Proxies(ProxyTest, WatchTest):
-    """What the proxy says, and how it checks."""
+    """What the proxy reports, and how it checks."""
 
     def watch_words(self, proxy):
         """The words of the watch of a proxy, or none as long as there is no watch."""
@@ -113,19 +113,19 @@ class Proxies(ProxyTest, WatchTest):
         for settings, how in (({"number_of_replicas": 2}, "2 replicas, with document"), ({"number_of_replicas": 1, "replication.type": "SEGMENT"}, "1 replica, with segment")):
             with self.subTest(how):
                 proxy = self.proxy(self.stand_in(settings=settings).url)
-                self.assertEqual(proxy.told.readline(), f"casbench_recording.proxy: the index carts has {how} replication: {FITS} {self.file}\n")
+                self.assertEqual(proxy.errors.readline(), f"casbench_recording.proxy: the index carts has {how} replication: {FITS} {self.file}\n")
                 self.put(proxy)
                 self.assertTrue(proxy.ended().endswith(f"\nthe check that fits: {FITS.partition(' is ')[2]} {self.file}"))
                 os.remove(self.file)
 
     def test_an_index_without(self):
-        """Nothing is said: the check without options fits."""
+        """Nothing is reported: the check without options fits."""
         proxy = self.proxy(self.stand_in(settings={"number_of_replicas": 0}).url)
         self.put(proxy)
         self.assertNotIn("fits", proxy.ended())
 
     def test_an_index_that_is_made_later(self):
-        """It is said before its first call, and the watch, and the parts, take the reading then, unless another one is named."""
+        """The check is reported before the first call; then the watch, and the parts, take the reading, unless another one is named."""
         stand_in = self.started("stand_in", "--port", "0")
         for words, wanted in (((), OPENSEARCH), (("--gets", "last"), STRICT)):
             with self.subTest(words):
@@ -135,7 +135,7 @@ class Proxies(ProxyTest, WatchTest):
                 with self.subTest("made"):
                     asked = self.asker(proxy).ask("PUT", "/carts", {"settings": {"number_of_replicas": "1"}})
                     self.assertEqual(asked[0], 200)
-                    self.assertIn(f"{FITS} {self.file}/*.ndjson\n", proxy.told.readline())
+                    self.assertIn(f"{FITS} {self.file}/*.ndjson\n", proxy.errors.readline())
                 self.put(proxy)
                 own = wanted.words()
                 self.wait_for(lambda proxy=proxy, own=own: self.watch_words(proxy)[-2 - len(own) : -2] == own if own else self.watch_words(proxy))
@@ -149,10 +149,10 @@ class Proxies(ProxyTest, WatchTest):
 
 
 class Recorders(WatchTest):
-    """What `record` says, and how its own watch checks, of the index that it makes."""
+    """What `record` reports of the index that it makes, and how its own watch checks."""
 
     def record(self, nodes, *words):
-        """Records a stand-in of so many nodes: what it writes on standard error, and the arguments of the last check of its watch."""
+        """Records a stand-in of so many nodes; returns its standard error, and the arguments of the last check of its watch."""
         log = pathlib.Path(self.folder) / "log"
         program = self.script(f"echo \"$@\" >>{log}; exec $casbench \"$@\"")
         with Started("stand_in", "--port", "0", "--nodes", str(nodes)) as store:
@@ -163,7 +163,7 @@ class Recorders(WatchTest):
 
     def test_the_reading(self):
         copies = f"record.py: the index carts has 2 replicas, with document replication: {FITS}"
-        for name, told, reading, nodes, words in (
+        for name, errors, reading, nodes, words in (
             ("replicas", f"{copies} {{file}}\n", OPENSEARCH, 3, ("--watch", "--replicas", "2")),
             ("several nodes", f"record.py: the cluster has 3 nodes: {FITS} {{file}}\n", OPENSEARCH, 3, ("--watch", "--replicas", "0")),
             ("one node", "", STRICT, 1, ("--watch",)),
@@ -174,7 +174,7 @@ class Recorders(WatchTest):
             with self.subTest(name):
                 self.file = os.path.join(self.folder, name.replace(" ", "-"))
                 printed, arguments = self.record(nodes, *words)
-                self.assertEqual(printed, told.format(file=self.file))
+                self.assertEqual(printed, errors.format(file=self.file))
                 if reading is not None:
                     self.assertEqual(arguments, ["check", "--rule-out", *reading.words()])
                 with contextlib.suppress(FileNotFoundError):
@@ -185,10 +185,10 @@ class Recorders(WatchTest):
         calls = MOST_EVENTS // 3
         for words, is_refused in ((("--watch",), True), (("--watch", "--profile", "strict"), False), ((), False)):
             words = ["http://127.0.0.1", "carts", "OUT", "--clients", "1", "--calls", str(calls + 1), *words]
-            with self.subTest(words), contextlib.redirect_stderr(io.StringIO()) as told:
+            with self.subTest(words), contextlib.redirect_stderr(io.StringIO()) as errors:
                 with contextlib.suppress(SystemExit):
                     record.words_of(words)
-                self.assertEqual(f"over {calls} calls, the most of one history" in told.getvalue(), is_refused)
+                self.assertEqual(f"over {calls} calls, the most of one history" in errors.getvalue(), is_refused)
 
 
 if __name__ == "__main__":

@@ -23,7 +23,7 @@ from recordings import FolderTest, Started, environment
 
 ENDED = "casbench_recording.proxy: the recording ended early: "
 
-# A command that says much on both outputs behind its address, more than a pipe holds.
+# A command that prints its address and then, on both streams, more than a pipe holds.
 MUCH = """
 import sys
 print("http://127.0.0.1:9", file=sys.stderr)
@@ -69,26 +69,26 @@ class ReportTest(FolderTest):
         return answer.status
 
     def reported(self, proxy):
-        """The next line on standard error, if there is one within some seconds; else nothing."""
-        return proxy.told.readline(10).strip()
+        """The next line on standard error; empty if none comes within ten seconds."""
+        return proxy.errors.readline(10).strip()
 
 
 class Much(ReportTest):
     """What these tests start."""
 
-    def test_a_command_that_says_much(self):
-        """It doesn't wait until somebody takes what it says."""
+    def test_a_command_with_much_output(self):
+        """It doesn't wait until its output is taken."""
         command = self.started("much", start=(sys.executable, "-c", MUCH))
         self.assertEqual(command.process.wait(60), 0)
-        self.assertEqual((command.port, command.told.readline()), (9, "x" * 99 + "\n"))
-        self.assertEqual(command.said(), ("x" * 99 + "\n" + ("y" * 99 + "\n") * 10_000, ("y" * 99 + "\n") * 10_000))
-        self.assertEqual((command.told.readline(), command.told.readline(0.1)), ("", ""))
+        self.assertEqual((command.port, command.errors.readline()), (9, "x" * 99 + "\n"))
+        self.assertEqual(command.outputs(), ("x" * 99 + "\n" + ("y" * 99 + "\n") * 10_000, ("y" * 99 + "\n") * 10_000))
+        self.assertEqual((command.errors.readline(), command.errors.readline(0.1)), ("", ""))
 
 
 class EarlyEnds(ReportTest):
-    """A recording that ends before its time."""
+    """A recording that ends early."""
 
-    def test_it_is_said_at_once_and_at_the_end(self):
+    def test_it_is_reported_at_once_and_at_the_end(self):
         proxy = self.proxy()
         self.assertEqual(self.ask(proxy, "PUT", "/carts/_doc/d", "{}"), 201)
         self.ask(proxy, "DELETE", "/carts")
@@ -134,7 +134,7 @@ class EarlyEnds(ReportTest):
             while not re.search(rb"\r\x1b\[K1 call, 0 lost, 0 calls a second, the recording ended early: POST [^\r]*\r", shown):
                 shown += terminal.read(1000)
             self.assertIn(f"\r\x1b[K{ENDED}POST /carts/_long".encode(), shown)
-            # (a terminal that says nothing of its width has 80 columns)
+            # (a terminal that doesn't report its width has 80 columns)
             self.assertEqual(max(len(it) for it in shown.split(b"\r\x1b[K") if b"a second" in it), 79)
             proxy.process.send_signal(signal.SIGTERM)
             self.assertEqual(proxy.process.wait(30), 3)
@@ -149,7 +149,7 @@ class EarlyEnds(ReportTest):
 
 
 class Nodes(ReportTest):
-    """Clients that ask where the nodes are."""
+    """Clients that request the addresses of the nodes."""
 
     def test_they_are_warned_of_once(self):
         proxy = self.proxy()
@@ -169,10 +169,10 @@ class Nodes(ReportTest):
 
 
 class Arguments(FolderTest):
-    """Commands that are called wrong."""
+    """Commands with wrong arguments."""
 
     def run_of(self, module, *words):
-        """The status of a command, and what it says on standard error."""
+        """The exit status of a command, and the last line of its standard error."""
         words = [sys.executable, "-m", f"casbench_recording.{module}", *words]
         ran = subprocess.run(words, env=environment(), cwd=self.folder, capture_output=True, text=True, timeout=60)
         self.assertNotIn("Traceback", ran.stderr)

@@ -1,5 +1,5 @@
 #!/usr/bin/env python3
-"""Tests recordings of an index that isn't empty: they begin when what was asked before is over, and aren't ended by their list.
+"""Tests recordings of an index that isn't empty: they begin when earlier requests are over, and aren't ended by their list.
 
     python3 tests/recorded_settling.py [PROGRAM]
 
@@ -89,13 +89,13 @@ class InFlight(ProxyTest):
                 sender.join()
             second = self.proxy(cluster.url, "--created-only", *words)
             if seconds:
-                self.assertEqual(second.told.readline(), waits(seconds))
+                self.assertEqual(second.errors.readline(), waits(seconds))
             with Asker(second.port) as asker:
                 statuses = [asker.ask("GET", "/carts/_doc/late")[0]]
                 cluster.is_released.set()
                 cluster.is_over.wait(60)
                 if seconds:
-                    self.assertEqual(second.told.readline(), BEGINS)
+                    self.assertEqual(second.errors.readline(), BEGINS)
                 statuses += [asker.ask("GET", "/carts/_doc/late")[0], asker.ask("PUT", "/carts/_doc/new", {})[0]]
             self.assertEqual(statuses, [404, 200, 201])
             return second.ended()
@@ -107,7 +107,7 @@ class InFlight(ProxyTest):
             self.assertRegex(self.check(*options), r"\Ayes docs=2 calls=2 ")
 
     def test_a_proxy_that_is_started_without_the_option(self):
-        """It waits by itself, for longer than this takes, so that nothing is recorded."""
+        """It waits without the option too, for longer than this takes, so that nothing is recorded."""
         self.recorded()
         self.assertFalse(os.path.exists(self.file) and self.check())
 
@@ -126,12 +126,12 @@ class Settling(ProxyTest):
         for words, ids in ((["--created-only"], {"read", "new", "old"}), (["--documents", "new,written,read"], {"read", "new"})):
             with self.subTest(words):
                 proxy = self.proxy(other.url, *words, "--settle", "2")
-                self.assertEqual(proxy.told.readline(), waits(2))
+                self.assertEqual(proxy.errors.readline(), waits(2))
                 asker, bulk = self.asker(proxy), b'{"index":{"_id":"written"}}\n{}\n'
                 self.assertEqual(asker.ask("GET", "/carts/_doc/read")[0], 404)
                 self.assertEqual(asker.ask("POST", "/carts/_bulk", bulk)[0], 200)
                 self.assertEqual(os.path.getsize(self.file), 0)
-                self.assertEqual(proxy.told.readline(), BEGINS)
+                self.assertEqual(proxy.errors.readline(), BEGINS)
                 for id in ("read", "new", "written", "old"):
                     asker.ask("GET", f"/carts/_doc/{id}")
                     asker.ask("PUT", f"/carts/_doc/{id}", {})
@@ -160,7 +160,7 @@ class Settling(ProxyTest):
         plan.write_text(f"after 0.5 s: touch {mark}\n")
         began = time.time()
         proxy = self.proxy(other.url, "--created-only", "--settle", "2", "--disturb", str(plan))
-        self.assertEqual([proxy.told.readline() for _ in range(2)], [waits(2), BEGINS])
+        self.assertEqual([proxy.errors.readline() for _ in range(2)], [waits(2), BEGINS])
         while not mark.exists():
             self.assertLess(time.time(), began + 60)
             time.sleep(0.05)

@@ -102,31 +102,31 @@ class Beside(WatchTest):
             self.assertEqual(os.listdir(self.folder), [])
 
     def test_a_watch_that_is_killed(self):
-        """The application goes on, a line says so, and another watch finds what is refuted."""
+        """The application goes on, a line reports that, and another watch finds what is refuted."""
         for sent in (signal.SIGKILL, signal.SIGTERM):
             with self.subTest(sent.name), Started("stand_in", "--port", "0", "--fault", "stale-get") as store, self.proxy(store) as proxy:
                 self.wait_for(lambda proxy=proxy: self.watch_of(proxy.process))
                 first = self.watch_of(proxy.process)
                 os.kill(first, sent)
-                told = proxy.told.readline()
+                line = proxy.errors.readline()
                 wanted = f"the watch was killed by signal {int(sent)}: the recording goes on, and the watch is started again in 1 s"
-                self.assertEqual(told, f"casbench_recording.proxy: {wanted}\n")
+                self.assertEqual(line, f"casbench_recording.proxy: {wanted}\n")
                 self.load(proxy, f"{sent.name}.ndjson")
-                printed, _ = proxy.said()
+                printed, _ = proxy.outputs()
                 self.assertEqual(proxy.process.returncode, 1)
                 # (a stale get that finds nothing may be proved by the answers alone)
                 self.assertRegex(printed, r"\Arefuted kind=(stale-get|ruled-out) ")
             os.remove(self.file)
 
     def test_a_check_that_is_killed(self):
-        """The application goes on, a line says so, and the recording is checked once the program can."""
+        """The application goes on, a line reports that, and the recording is checked once the program can."""
         mark = os.path.join(self.folder, "mark")
         program = self.script(f"if [ -e {mark} ]; then kill -9 $$; else exec $casbench \"$@\"; fi")
         with Started("stand_in", "--port", "0") as store, self.proxy(store, program=program) as proxy:
             pathlib.Path(mark).touch()
             self.assertEqual(self.load(proxy, "first.ndjson").returncode, 0)
             for wanted in (r"casbench_recording\.watch: .* ended with status -9: ", r"casbench_recording\.proxy: the watch ended with status 4: the recording goes on"):
-                self.assertRegex(proxy.told.readline(), wanted)
+                self.assertRegex(proxy.errors.readline(), wanted)
             self.assertEqual(self.load(proxy, "second.ndjson", index="others").returncode, 0)
             os.remove(mark)
             printed = proxy.ended()
@@ -134,7 +134,7 @@ class Beside(WatchTest):
         self.assertIn("yes docs=8 calls=200 left_out=0\n", printed)
 
     def test_a_last_check_that_fails(self):
-        """A recording that nobody could check isn't one that is right."""
+        """A recording that couldn't be checked isn't taken for explained."""
         mark = os.path.join(self.folder, "mark")
         program = self.script(f"if [ -e {mark} ]; then exit 1; else exec $casbench \"$@\"; fi")
         with Started("stand_in", "--port", "0") as store, self.proxy(store, program=program) as proxy:
@@ -154,7 +154,7 @@ class Beside(WatchTest):
                 words = ["--seconds", "600", "--patience", "0", proxy.url, "carts", self.file]
                 load = [sys.executable, "-m", "casbench_recording.record", *words]
                 ran = subprocess.run(load, capture_output=True, text=True, env=environment(), timeout=SECONDS)
-                printed, fault = proxy.said()
+                printed, fault = proxy.outputs()
         self.assertEqual((ran.returncode, proxy.process.returncode), (1, 1), ran.stderr)
         self.assertIn("Connection refused", ran.stderr)
         self.assertRegex(printed, r"\A(part-\d+\.ndjson: yes .*\n)*.*/parts/part-\d+\.ndjson(\.growing)?:\nrefuted kind=")

@@ -1,5 +1,5 @@
-"""What the tests of recorders have in common: the package in recording/, folders of their own, and what casbench says
-of a file.
+"""What the tests of recorders have in common: the package in recording/, folders of their own, and casbench's verdict
+on a file.
 
 It is no test itself.
 """
@@ -20,7 +20,7 @@ import urllib.request
 from program import TOP
 from program_test import ProgramTest
 
-# After how many seconds a command has failed that doesn't end.
+# A command that runs for more seconds has failed.
 SECONDS = 60
 
 PACKAGE = TOP / "recording"
@@ -35,26 +35,26 @@ def own_reading(reading):
 
 
 def reading_of_options(words):
-    """The reading that these options ask for, as the package reads them among other words."""
+    """The reading of these options, as the package parses them among other words."""
     parser = argparse.ArgumentParser()
     add_reading_options(parser.add_argument)
     return reading_of(parser.parse_known_args(words)[0])
 
 
 def judged(program, file, *options):
-    """What the program says of a history."""
+    """The output of a check of a history."""
     ran = subprocess.run([program, "check", file, *options], stdout=subprocess.PIPE, text=True)
     return ran.stdout.strip()
 
 
 def empty_stats(index):
-    """What a cluster answers about the shards of an index to which nothing was written."""
+    """A cluster's answer about the shards of an index to which nothing was written."""
     shards = {str(it.number): [{"seq_no": {"max_seq_no": -1}}] for it in index.shards}
     return {"indices": {index.name: {"shards": shards}}}
 
 
 def environment(**more):
-    """The environment of the package's commands, without a word of who asks but those given."""
+    """The environment of the package's commands, with no credentials but those given."""
     kept = {key: it for key, it in os.environ.items() if not key.startswith("OPENSEARCH_")}
     return {**kept, "PYTHONPATH": str(PACKAGE), **more}
 
@@ -64,11 +64,11 @@ if signal.getsignal(signal.SIGINT) is signal.SIG_IGN:
     signal.signal(signal.SIGINT, signal.default_int_handler)
 
 
-class Said:
-    """What a stream says. It is read at once, so that nobody who writes to it has to wait; its lines are taken one by one."""
+class Output:
+    """The output on a stream. It is read at once, so that its writer never has to wait; its lines are taken one by one."""
 
     def __init__(self, stream):
-        # each with the moment at which it came; how many of them were taken; and whether there are no more
+        # each line with its time; how many were taken; and whether there are no more
         self.lines, self.taken, self.is_over = [], 0, False
         self.changed = threading.Condition()
         self.thread = threading.Thread(target=self.read_stream, args=(stream,), daemon=True)
@@ -85,7 +85,7 @@ class Said:
             self.changed.notify_all()
 
     def has_line(self, seconds=None):
-        """Whether a line is there to be taken, or comes within these seconds, or, without them, before the end."""
+        """Whether there is a line to take, or one comes within these seconds or, without them, before the end."""
         with self.changed:
             self.changed.wait_for(lambda: self.taken < len(self.lines) or self.is_over, seconds)
             return self.taken < len(self.lines)
@@ -98,27 +98,27 @@ class Said:
         return self.lines[self.taken - 1][1]
 
     def read(self):
-        """Takes all lines that are left, when the stream is at its end."""
+        """Waits for the end of the stream, and takes all lines that are left."""
         self.thread.join(SECONDS)
         first, self.taken = self.taken, len(self.lines)
         return "".join(text for _, text in self.lines[first:])
 
     def first(self, pattern):
-        """The first line of all that begins with a pattern, with its moment, or None."""
+        """The first line of all that begins with a pattern, with its time, or None."""
         return next(((moment, line.rstrip("\n")) for moment, line in list(self.lines) if re.match(pattern, line)), None)
 
 
 class Started:
-    """A command of the package that listens, and runs until the block ends. The first line that it says is its
-    address. What it says on standard error is `told`, unless that goes elsewhere."""
+    """A command of the package that listens, and runs until the block ends. Its first line on standard error is its
+    address. The other lines there are in `errors`, unless standard error is redirected."""
 
     def __init__(self, name, *arguments, start=(), stderr=subprocess.PIPE, **more):
         command = [*(start or (sys.executable, "-m", f"casbench_recording.{name}")), *arguments]
         pipes = {"stdin": subprocess.DEVNULL, "stdout": subprocess.PIPE, "stderr": stderr}
         self.process = subprocess.Popen(command, **pipes, text=True, env=environment(**more))
-        self.printed = Said(self.process.stdout)
-        self.told = Said(self.process.stderr) if self.process.stderr else None
-        self.url = self.told.readline().strip() if self.told else ""
+        self.printed = Output(self.process.stdout)
+        self.errors = Output(self.process.stderr) if self.process.stderr else None
+        self.url = self.errors.readline().strip() if self.errors else ""
         self.port = int(self.url.rpartition(":")[2]) if self.url.startswith("http") else None
 
     def __enter__(self):
@@ -130,17 +130,17 @@ class Started:
 
     def addresses(self, count):
         """The next lines on standard error: further addresses."""
-        return [self.told.readline().strip() for _ in range(count)]
+        return [self.errors.readline().strip() for _ in range(count)]
 
-    def said(self):
-        """Waits for its end; what it says after its address, on each output."""
+    def outputs(self):
+        """Waits for its end; returns its standard output, and its standard error after its address."""
         self.process.wait(SECONDS)
-        return self.printed.read(), self.told.read() if self.told else ""
+        return self.printed.read(), self.errors.read() if self.errors else ""
 
     def ended(self, sent=signal.SIGTERM):
-        """Ends it by a signal; what it says after its address, on both outputs."""
+        """Ends it by a signal; returns its standard output, and its standard error after its address, as one text."""
         self.process.send_signal(sent)
-        return "".join(self.said()).strip()
+        return "".join(self.outputs()).strip()
 
     def processor_time(self):
         """How many seconds of a processor it took so far."""
@@ -166,7 +166,7 @@ class FolderTest(ProgramTest):
         self.file = os.path.join(folder.name, "carts.ndjson")
 
     def check(self, *options):
-        """What the program says of the history."""
+        """The output of a check of the history."""
         return judged(self.program, self.file, *options)
 
     def lines(self):

@@ -1,10 +1,10 @@
 #!/bin/sh
-# Checks one history of a folder, and leaves its verdict beside it: what the check prints, and in the last line its status.
+# Checks one history of a folder, and writes its verdict beside it: the output of the check, and on the last line its exit status.
 #
 #     judge-one.sh DIR INDEX [OPTION]..
 #
-# The index counts the histories, *.ndjson, from 0, in the order of their names' bytes. CASBENCH is the program, or casbench on the path.
-# The status is 0 if the history was judged, whatever the answer is; else that of the check, so that the job may be tried again.
+# The index counts the histories, *.ndjson, from 0, in the order of their names' bytes. CASBENCH is the program, else casbench on the path.
+# The exit status is 0 if the history was judged, whatever the answer is; else that of the check, so that the job may be tried again.
 
 set -u
 folder=$1

@@ -1,5 +1,5 @@
 #!/bin/sh
-# An array job of Slurm: each task checks one history of a folder that all nodes have. At the top of the checkout:
+# An array job of Slurm: each task checks one history of a folder that all nodes share. At the top of the checkout:
 #
 #     CASBENCH=$PWD/casbench sbatch --wait --array=0-$(($(ls DIR/*.ndjson | wc -l) - 1)) examples/machines/slurm.sbatch DIR --profile opensearch
 #     PYTHONPATH=recording python3 -m casbench_recording.verdicts DIR

@@ -3,9 +3,9 @@
 
     python3 move_primary.py [PATIENCE]
 
-CASBENCH_NODES has the addresses of the nodes, of which the first that answers is asked; CASBENCH_INDEX the index; CASBENCH_CA_FILE the
-authorities to trust. Who asks stands in OPENSEARCH_USER and OPENSEARCH_PASSWORD. It is tried for PATIENCE seconds, 20 by default, as while
-no other copy has started; then the status is 1.
+CASBENCH_NODES has the addresses of the nodes; the request goes to the first that answers. CASBENCH_INDEX is the index, CASBENCH_CA_FILE
+has the authorities to trust, and OPENSEARCH_USER and OPENSEARCH_PASSWORD are the credentials. If it fails, as while no other copy has
+started, it is tried again for PATIENCE seconds, 20 by default; then the exit status is 1.
 """
 
 import base64
@@ -20,7 +20,7 @@ SECONDS, PATIENCE = 20, 20
 
 
 def ask(url, body=None, known=os.environ):
-    """What a node answers: a value of JSON. Raises OSError if it answers with a fault, or not at all."""
+    """Sends a request to a node; returns the JSON value of the response. Raises OSError if that is an error, or if there is none."""
     request = urllib.request.Request(url, json.dumps(body).encode() if body is not None else None, {"Content-Type": "application/json"})
     if known.get("OPENSEARCH_USER"):
         pair = f"{known['OPENSEARCH_USER']}:{known.get('OPENSEARCH_PASSWORD', '')}".encode()
@@ -31,7 +31,7 @@ def ask(url, body=None, known=os.environ):
 
 
 def move(url, index):
-    """Asks a node for the one that has the primary, and has it give the primary up; returns that one's name."""
+    """Finds the node that has the primary, and has it give the primary up; returns its name."""
     shards = [it for it in ask(f"{url}/_cat/shards/{index}?format=json&h=shard,prirep,state,node") if it["shard"] == "0"]
     started = {kind: [it["node"] for it in shards if (it["prirep"], it["state"]) == (kind, "STARTED")] for kind in "pr"}
     if not started["p"] or not started["r"]:

@@ -1,7 +1,7 @@
 """One loop that waits for many connections at once, on one thread.
 
-What comes on a connection is handed on in the same turn, and what is written is given to the operating system at once as far as
-it takes it: there is no task and no queue between.
+Received data is handed on in the same turn, and written data is passed to the operating system at once as far as it accepts it:
+there is no task and no queue in between.
 """
 
 import contextlib
@@ -18,47 +18,47 @@ from typing import Any, Callable, Deque, Dict, List, Protocol, Union
 from .console import tell_fault, tell_line
 
 PIECE = 65_536
-"""The most bytes that are taken at once. For larger pieces the memory is asked of the system anew each time."""
+"""The most bytes that are read at once. For larger pieces memory would be requested from the system each time."""
 
 MOST_WAITING = 65_536
-"""How many bytes may wait to be sent before whoever writes is asked to pause."""
+"""How many bytes may wait to be sent before the writer has to pause."""
 
 READ, WRITE = selectors.EVENT_READ, selectors.EVENT_WRITE
 
 TICK = 0.5
-"""How many seconds lie between two looks at what takes too long."""
+"""The seconds between two checks for timeouts."""
 
 LINGERING = 2.0
-"""For how many seconds what comes is still taken, and thrown away, after the last of an answer."""
+"""For how many seconds after the end of an answer received data is read and discarded."""
 
 MOST_LINGERING = 16
-"""Of how many connections that is done at once."""
+"""For how many connections that is done at once."""
 
 NO_ROOM = (errno.EMFILE, errno.ENFILE, errno.ENOBUFS, errno.ENOMEM)
-"""What the system says where it has room for no more connections."""
+"""The errors of the system if it has no room for another connection."""
 
 
 class User(Protocol):
-    """Who uses a connection."""
+    """The user of a connection."""
 
     def received(self, data: bytes) -> None:
-        """Takes what came, at least a byte."""
+        """Takes received data, at least one byte."""
 
     def pause_writing(self) -> None:
-        """Hears that much waits to be sent."""
+        """Called when many bytes wait to be sent."""
 
     def resume_writing(self) -> None:
-        """Hears that nothing waits to be sent any more."""
+        """Called when no more bytes wait to be sent."""
 
     def ended(self) -> None:
-        """Hears that the other side sends no more. It may still take something."""
+        """Called when the other side sends no more. It may still receive data."""
 
     def connection_lost(self) -> None:
-        """Hears that the connection is closed, whoever closed it. Called once, and in no other method's turn."""
+        """Called once when the connection is closed, by either side, and not during another method."""
 
 
 class Loop:
-    """The loop. `call` and `stop` are for any thread, and for signals; all else is for the thread that runs it."""
+    """The loop. Any thread or signal handler may call `call` and `stop`; all else is for the thread that runs it."""
 
     def __init__(self) -> None:
         self.is_over = self._has_signals = False
@@ -66,7 +66,7 @@ class Loop:
         self.now = time.monotonic()
         # how many bytes wait to be sent, on all connections together
         self.waiting = 0
-        # what is called every now and then, with the time
+        # what is called at each tick, with the time
         self.ticks: Dict[Callable[[float], None], None] = {self._end_lingering: None}
         self._selector = selectors.DefaultSelector()
         self._calls: Deque[Callable[[], None]] = deque()
@@ -86,7 +86,7 @@ class Loop:
     def run(self) -> None:
         """Runs until it is stopped.
 
-        A thread of its own wakes the loop for each tick: a timeout of each wait would cost more than all ticks do.
+        A separate thread wakes the loop for each tick: a timeout for each wait would cost more than all ticks do.
         """
         select, calls, following, clock = self._selector.select, self._calls, self._next, time.monotonic
         threading.Thread(target=self._keep_time, daemon=True).start()
@@ -102,19 +102,19 @@ class Loop:
                 self._make_calls()
 
     def _keep_time(self) -> None:
-        """Has the ticks called, every now and then until the loop is closed."""
+        """Has `_tick` called every TICK seconds, until the loop is closed."""
         while not self._has_closed.wait(TICK):
             if not self._is_tick_due:
                 self._is_tick_due = True
                 self.call(self._tick)
 
     def _tick(self) -> None:
-        """Looks at what takes too long. A look that fails keeps no other from being made."""
+        """Schedules the calls of a tick. If one fails, the others are still made."""
         self._is_tick_due = False
         self._calls.extend([functools.partial(it, self.now) for it in self.ticks])
 
     def _make_calls(self) -> None:
-        """Makes the calls that are due. One that fails keeps no other from being made."""
+        """Makes the calls that are due. If one fails, the others are still made."""
         while self._calls:
             try:
                 self._calls.popleft()()
@@ -122,7 +122,7 @@ class Loop:
                 tell_fault()
 
     def close(self) -> None:
-        """Makes the calls that are due, and gives back what the loop has of the system."""
+        """Makes the calls that are due, and releases the resources of the loop."""
         self._has_closed.set()
         self._make_calls()
         if self._has_signals:
@@ -145,12 +145,12 @@ class Loop:
         self._wake_up()
 
     def stop(self) -> None:
-        """Has the loop end."""
+        """Ends the loop."""
         self.is_over = True
         self._wake_up()
 
     def stop_at(self, *signals: int) -> None:
-        """Has the loop end at a signal, whichever thread the system gives it to. The main thread says so, and runs the loop."""
+        """Ends the loop at a signal, whichever thread receives it. The main thread calls this, and runs the loop."""
         self._has_signals = True
         signal.set_wakeup_fd(self._waker.fileno(), warn_on_full_buffer=False)
         for it in signals:
@@ -159,11 +159,11 @@ class Loop:
     def _wake_up(self) -> None:
         """Ends the waiting."""
         with contextlib.suppress(OSError):
-            # (so many wake it already, or it has ended)
+            # (the socket is full of wake-ups, or the loop is closed)
             self._waker.send(b"!")
 
     def _wake(self, events: int) -> None:
-        """Takes what ended the waiting."""
+        """Reads what ended the waiting."""
         self._woken.recv(PIECE)
 
     def wait_for_room(self, what: Callable[[], None]) -> None:
@@ -171,12 +171,12 @@ class Loop:
         self._waiting_for_room.append(what)
 
     def has_room(self) -> None:
-        """Hears that a connection was closed."""
+        """Called when a connection was closed."""
         self._calls.extend(self._waiting_for_room)
         self._waiting_for_room.clear()
 
     def linger(self, stream: "Stream") -> None:
-        """Closes a connection in a while, unless the other side does."""
+        """Closes a connection after a while, unless the other side closes it first."""
         self._lingering.append(stream)
         if len(self._lingering) > MOST_LINGERING:
             self._lingering.popleft().abort()
@@ -187,7 +187,7 @@ class Loop:
             self._lingering.popleft().abort()
 
     def watch(self, what: socket.socket, before: int, after: int, heed: Callable[[int], None]) -> None:
-        """Has these events of a socket heeded, in the place of those before."""
+        """Watches a socket for these events instead of those before."""
         if not before:
             self._selector.register(what, after, heed)
         elif not after:
@@ -196,7 +196,7 @@ class Loop:
             self._selector.modify(what, after, heed)
 
     def listen(self, host: str, port: int, accepted: Callable[[socket.socket], object]) -> "List[Listener]":
-        """Listens at each address of the host; hands on each connection that is made."""
+        """Listens on each address of the host; hands on each accepted connection."""
         kind = socket.SOCK_STREAM
         addresses = dict.fromkeys(socket.getaddrinfo(host, port, type=kind, flags=socket.AI_PASSIVE))
         listeners: "List[Listener]" = []
@@ -211,7 +211,7 @@ class Loop:
 
 
 class Listener:
-    """A socket on which connections are made."""
+    """A listening socket."""
 
     def __init__(self, loop: Loop, family: int, address: Any, accepted: Callable[[socket.socket], object]) -> None:
         self._loop = loop
@@ -236,7 +236,7 @@ class Listener:
         return int(self.socket.getsockname()[1])
 
     def heed(self, events: int) -> None:
-        """Takes a connection, if one is there. Where the system has room for no more it waits until one is closed."""
+        """Accepts a connection, if there is one. If the system has no room for it, accepts none until one is closed."""
         try:
             connection, _ = self.socket.accept()
         except OSError as fault:
@@ -252,19 +252,19 @@ class Listener:
             connection.close()
 
     def _watch(self, events: int) -> None:
-        """Has these events heeded, as long as it listens."""
+        """Watches for these events, as long as it listens."""
         if events != self._events and self.socket.fileno() >= 0:
             self._loop.watch(self.socket, self._events, events, self.heed)
             self._events = events
 
     def close(self) -> None:
-        """Takes no more connections."""
+        """Accepts no more connections."""
         self._watch(0)
         self.socket.close()
 
 
 class Stream:
-    """A connection. What waits to be sent is sent as the other side takes it."""
+    """A connection. Bytes that wait to be sent are sent as the other side accepts them."""
 
     def __init__(self, loop: Loop, connection: socket.socket, user: User) -> None:
         self.user = user
@@ -273,17 +273,17 @@ class Stream:
         connection.setblocking(False)
         if connection.family in (socket.AF_INET, socket.AF_INET6):
             with contextlib.suppress(OSError):
-                # (the other side may have closed it; that is seen when it is read)
+                # (the other side may have closed it, which a read shows)
                 connection.setsockopt(socket.IPPROTO_TCP, socket.TCP_NODELAY, 1)
         self._waiting = bytearray()
-        # whether whoever writes was asked to pause
+        # whether the writer has to pause
         self.is_paused = False
         self.is_closing = self.is_closed = False
-        # whether the other side said that it sends no more
+        # whether the other side sends no more
         self.is_at_end = False
-        # until when what comes is thrown away
+        # until when received data is discarded
         self.lingers_to: float = 0.0
-        # what of the socket is heeded
+        # the events that the socket is watched for
         self._events = 0
         self._watch(READ)
 
@@ -293,7 +293,7 @@ class Stream:
         return len(self._waiting)
 
     def heed(self, events: int) -> None:
-        """Goes on with what the socket is ready for. A fault of whoever uses the connection ends it, and no other one."""
+        """Handles events of the socket. An exception of the connection's user closes this connection, and no other one."""
         try:
             if events & WRITE:
                 self._send_waiting()
@@ -304,7 +304,7 @@ class Stream:
             self.abort()
 
     def _receive(self) -> None:
-        """Hands on what came."""
+        """Hands on received data."""
         try:
             data = self._socket.recv(PIECE)
         except (BlockingIOError, InterruptedError):
@@ -339,7 +339,7 @@ class Stream:
             self.user.pause_writing()
 
     def _send(self, data: Union[bytes, bytearray]) -> int:
-        """Gives bytes to the system; how many it took. After a fault the connection is closed."""
+        """Passes bytes to the system; returns how many it accepted. After an error the connection is closed."""
         try:
             return self._socket.send(data)
         except (BlockingIOError, InterruptedError):
@@ -349,7 +349,7 @@ class Stream:
             return 0
 
     def _send_waiting(self) -> None:
-        """Sends what waits, as far as the system takes it."""
+        """Sends the waiting bytes, as far as the system accepts them."""
         if self.is_closed:
             return
         count = self._send(self._waiting)
@@ -367,22 +367,22 @@ class Stream:
             self.user.resume_writing()
 
     def pause_reading(self) -> None:
-        """Takes no more of what comes."""
+        """Stops reading."""
         self._watch(self._events & ~READ)
 
     def resume_reading(self) -> None:
-        """Takes what comes again."""
+        """Reads again."""
         if not self.is_closing and not self.is_at_end:
             self._watch(self._events | READ)
 
     def _watch(self, events: int) -> None:
-        """Has these events heeded."""
+        """Watches for these events."""
         if events != self._events and not self.is_closed:
             self._loop.watch(self._socket, self._events, events, self.heed)
             self._events = events
 
     def close(self) -> None:
-        """Closes the connection when all that waits is sent. Nothing more is taken."""
+        """Closes the connection when all waiting bytes are sent. Nothing more is read."""
         if not self.is_closing:
             self.is_closing = True
             self.pause_reading()
@@ -390,9 +390,10 @@ class Stream:
                 self._close_now()
 
     def linger(self) -> None:
-        """Closes the connection when all that waits is sent and the other side ended it too, or after a while.
+        """Closes the connection when all waiting bytes are sent and the other side has closed it too, or after a while.
 
-        What comes until then is thrown away. If it weren't taken the system would take back what the other side hasn't read yet.
+        Data received until then is discarded. If it weren't read, the system would reset the connection, and the other side
+        would lose what it hasn't read yet.
         """
         if self.is_closing:
             return
@@ -404,7 +405,7 @@ class Stream:
             self._all_sent()
 
     def _all_sent(self) -> None:
-        """Goes on where all was sent before the end."""
+        """Called when all bytes were sent before the end."""
         if not self.lingers_to or self.is_at_end:
             self._close_now()
             return
@@ -420,7 +421,7 @@ class Stream:
         self._close_now()
 
     def _close_now(self) -> None:
-        """Closes the socket; who uses the connection hears of it soon."""
+        """Closes the socket; `connection_lost` of the user is called soon."""
         if not self.is_closed:
             self._watch(0)
             self.is_closed = True
@@ -429,5 +430,5 @@ class Stream:
             self._socket.close()
             self._loop.has_room()
             self._loop.soon(self.user.connection_lost)
-            # (which refers to this stream; it hears nothing else any more)
+            # (the user refers to this stream; except by that call it is not called any more)
             del self.user

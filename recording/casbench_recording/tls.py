@@ -7,13 +7,14 @@ from typing import Callable, Optional
 from .loop import PIECE, Loop, Stream, User
 
 NO_RENEGOTIATION = getattr(ssl, "OP_NO_RENEGOTIATION", 0)
-"""With it nothing that is written waits for something to be read first."""
+"""With this option no write has to wait for a read."""
 
 
 class TlsStream:
-    """An encrypted connection: for who uses it what a stream is, and the user of the stream that the encrypted bytes go over.
+    """An encrypted connection. For its user it is a stream, and it is the user of the stream of encrypted bytes.
 
-    Nothing is written before it is ready, which it tells; or it tells the fault for which it never will be.
+    Nothing is written before it is ready. `tell_ready` is called once: with None when it is, or with the error because of which
+    it never will be.
     """
 
     def __init__(
@@ -25,11 +26,11 @@ class TlsStream:
         host: Optional[str],
         tell_ready: Callable[[Optional[OSError]], None],
     ) -> None:
-        # (with a name it is a client's, of that server; without one a server's)
+        # (with a host it is the side of a client, without one that of a server)
         self.user = user
         self._tell_ready = tell_ready
         self._is_ready = self._was_told = False
-        # whether the other side said that it sends no more; an end of the connection alone doesn't say so
+        # whether the other side sent close_notify; the end of the connection alone doesn't count
         self.is_at_end = False
         self._incoming, self._outgoing = ssl.MemoryBIO(), ssl.MemoryBIO()
         self._tls = tls.wrap_bio(self._incoming, self._outgoing, server_side=host is None, server_hostname=host)
@@ -47,7 +48,7 @@ class TlsStream:
         return self._stream.waiting
 
     def _shake_hands(self) -> None:
-        """Goes on with what both sides agree on first."""
+        """Continues the handshake."""
         try:
             self._tls.do_handshake()
             self._is_ready = True
@@ -62,7 +63,7 @@ class TlsStream:
             self._tell(None)
 
     def _tell(self, fault: Optional[OSError]) -> None:
-        """Tells, once, that it is ready, or that it won't be."""
+        """Reports, once, that it is ready, or why it never will be."""
         if not self._was_told:
             self._was_told = True
             self._tell_ready(fault)
@@ -72,7 +73,7 @@ class TlsStream:
         self._stream.write(self._outgoing.read())
 
     def received(self, data: bytes) -> None:
-        """Takes encrypted bytes, and hands on what they say."""
+        """Takes encrypted bytes, and hands on the decrypted ones."""
         self._incoming.write(data)
         if not self._is_ready:
             self._shake_hands()
@@ -83,7 +84,7 @@ class TlsStream:
         self._send()
 
     def _read(self) -> bytes:
-        """What the encrypted bytes say that came, some of it; empty where nothing is left. A fault or an end closes the connection."""
+        """Returns decrypted bytes, none if nothing is left. An error or the end closes the connection."""
         if not self._is_ready or self.is_closing:
             return b""
         try:
@@ -98,7 +99,7 @@ class TlsStream:
         return plain
 
     def ended(self) -> None:
-        """Hears that no more encrypted bytes come."""
+        """Called when no more encrypted bytes come."""
         self._stream.close()
 
     def write(self, data: bytes) -> None:
@@ -108,20 +109,20 @@ class TlsStream:
             self._send()
 
     def pause_reading(self) -> None:
-        """Takes no more of what comes."""
+        """Stops reading."""
         self._stream.pause_reading()
 
     def resume_reading(self) -> None:
-        """Takes what comes again."""
+        """Reads again."""
         self._stream.resume_reading()
 
     def close(self) -> None:
-        """Closes the connection when all that waits is sent, and says so to the other side."""
+        """Sends close_notify, and closes the connection when all waiting bytes are sent."""
         if not self.is_closing:
             try:
                 self._tls.unwrap()
             except OSError:
-                # (it need not wait for the other side to say so too)
+                # (it needn't wait for close_notify of the other side)
                 pass
             self._send()
             self._stream.close()
@@ -131,19 +132,19 @@ class TlsStream:
         self._stream.abort()
 
     def pause_writing(self) -> None:
-        """Hears that much waits to be sent."""
+        """Called when many bytes wait to be sent."""
         if self._is_ready:
             self.user.pause_writing()
 
     def resume_writing(self) -> None:
-        """Hears that nothing waits to be sent any more."""
+        """Called when no more bytes wait to be sent."""
         if self._is_ready:
             self.user.resume_writing()
 
     def connection_lost(self) -> None:
-        """Hears that the connection is closed."""
+        """Called when the connection is closed."""
         self._tell(ConnectionResetError("the connection was closed before it was encrypted"))
         if self._is_ready:
             self.user.connection_lost()
-        # (which refers to this stream; it hears nothing any more)
+        # (the user refers to this stream, and is not called any more)
         del self.user

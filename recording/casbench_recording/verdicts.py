@@ -1,8 +1,8 @@
-"""Puts the verdicts of histories that were checked on several machines together to one.
+"""Combines the verdicts on histories that were checked on several machines into one.
 
     python3 -m casbench_recording.verdicts parts
 
-For each parts/NAME.ndjson a job has left parts/NAME.ndjson.verdict: what `casbench check --json` printed of it, and in the last line the
+For each parts/NAME.ndjson a job has written parts/NAME.ndjson.verdict: the output of `casbench check --json`, and on the last line the
 exit status. If the histories are those of the shards of a recording, one for each, an order of all calls explains the recording exactly
 if each history is explained (docs/RECORDING.md). A history without a verdict, or whose verdict is older than it, was not judged.
 """
@@ -17,22 +17,22 @@ from typing import Any, Dict, List, NamedTuple, Optional, Sequence, Tuple
 SUFFIX, OF_A_VERDICT = ".ndjson", ".verdict"
 
 SEVERITY = (3, 4, 5, 1, 2, 6, 0)
-"""The exit statuses of checks, that of the gravest first: what wasn't judged, what isn't explained, what is no history, too few calls."""
+"""The exit statuses of checks, the gravest first: not judged (3, 4, 5), not explained, refused, too few calls, explained."""
 
 NOT_JUDGED, NOT_EXPLAINED, REFUSED, TOO_FEW, EXPLAINED = 4, 1, 2, 6, 0
 
 ANSWERS = {EXPLAINED: {"yes"}, TOO_FEW: {"yes"}, NOT_EXPLAINED: {"no", "refuted"}, REFUSED: {"refused"}}
-"""Which answers a check has with a status."""
+"""The answers that a check may print with each exit status."""
 
 MEMBERS = {"no": ("event", "call", "before"), "refuted": ("kind", "calls", "event", "call", "before"), "refused": ("line", "cause")}
-"""The members that stand in the line of an answer, in their order."""
+"""The members that the line of an answer has, in order."""
 
 COUNTS = ("docs", "calls", "left_out", "gets")
-"""Those of a `yes`."""
+"""The counts that the line of a `yes` has, in order."""
 
 
 class Verdict(NamedTuple):
-    """What became of the check of a history: the exit status, and what was answered; or why there is no answer."""
+    """The result of the check of a history: the exit status and the answer, or why there is no answer."""
 
     file: str
     status: int
@@ -55,7 +55,7 @@ class Verdict(NamedTuple):
 
 
 def counts_of(answer: Dict[str, Any]) -> Dict[str, int]:
-    """The counts of a `yes`, in their order."""
+    """The counts of a `yes`, in order."""
     return {key: answer["counts"][key] for key in COUNTS if key in answer["counts"]}
 
 
@@ -66,7 +66,7 @@ def line_of(word: str, values: Dict[str, Any]) -> str:
 
 
 def verdict_of(history: str) -> Verdict:
-    """The verdict that a job has left beside a history."""
+    """The verdict that a job has written beside a history."""
     file = os.path.basename(history)
     try:
         if os.stat(history + OF_A_VERDICT).st_mtime_ns < os.stat(history).st_mtime_ns:
@@ -83,7 +83,7 @@ def verdict_of(history: str) -> Verdict:
 
 
 def answer_of(status: int, printed: Sequence[str]) -> Optional[Dict[str, Any]]:
-    """The object that a check printed, or None if it is none that a check has with this status."""
+    """The object that a check printed, or None if no check with this exit status prints it."""
     try:
         answer = json.loads("\n".join(printed))
         word = answer["answer"]
@@ -96,7 +96,7 @@ def answer_of(status: int, printed: Sequence[str]) -> Optional[Dict[str, Any]]:
 
 
 def together(verdicts: Sequence[Verdict], at_least: int) -> Tuple[int, str]:
-    """The status of all verdicts, which is that of the gravest one, and the line of all."""
+    """The status of all verdicts, which is that of the gravest one, and the line for all."""
     if not verdicts:
         return NOT_JUDGED, "not judged: there is no history"
     if len({json.dumps(it.answer.get("reading"), sort_keys=True) for it in verdicts if not it.fault}) > 1:
@@ -117,7 +117,7 @@ def together(verdicts: Sequence[Verdict], at_least: int) -> Tuple[int, str]:
 
 
 def status_fits(word: str, status: int) -> bool:
-    """Whether an answer is one that stands for a status."""
+    """Whether a check with this status may have this answer."""
     return (word == "not judged") == (status in (3, 4, 5)) and (word == "refused") == (status == REFUSED)
 
 
@@ -128,7 +128,7 @@ def histories_of(folder: str) -> List[str]:
 
 
 def main() -> int:
-    """Prints the verdicts that aren't `yes`, and then that of all; the exit status is that of the gravest."""
+    """Prints the verdicts that aren't `yes`, and then that of all; returns the status of the gravest."""
     parser = argparse.ArgumentParser(description="Puts the verdicts of a folder's histories together.")
     parser.add_argument("folder", metavar="DIR", help="the folder of the histories, *.ndjson, and of their verdicts, *.ndjson.verdict")
     parser.add_argument("--at-least", type=int, default=0, metavar="CALLS", help="of all histories together; a yes with fewer has status 6")

@@ -11,7 +11,7 @@ import java.util.HashSet;
 import java.util.List;
 import java.util.Set;
 
-/** Small recordings, each by its name: {@code Cases NAME FILE WORD..}. What a case finds out it prints. */
+/** Small recordings, each by its name: {@code Cases NAME FILE WORD..}. A case prints its results. */
 public final class Cases {
     private Cases() {}
 
@@ -47,7 +47,7 @@ public final class Cases {
         }
     }
 
-    /** All that the line of a call may say, and of a note. */
+    /** All members that the line of a call can have, and notes. */
     private static void lines(Path file) {
         try (CasHistory history = CasHistory.open(file)) {
             history.call(new Operation(Op.INDEX, "a").condition(4, 2).value(-1).shard(3).client("x\"y").node("node-1")).indexed(5, 2, false);
@@ -108,15 +108,15 @@ public final class Cases {
         for (Runnable it : wrong) {
             try {
                 it.run();
-            } catch (IllegalArgumentException told) {
+            } catch (IllegalArgumentException thrown) {
                 refused++;
             }
         }
         System.out.println(refused + " of " + wrong.size());
         try {
             CasHistory.open(file);
-        } catch (UncheckedIOException told) {
-            System.out.println(told.getMessage().contains("is there already"));
+        } catch (UncheckedIOException thrown) {
+            System.out.println(thrown.getMessage().contains("is there already"));
         }
         history.close();
     }
@@ -153,7 +153,7 @@ public final class Cases {
         }
     }
 
-    /** Records until the file can't grow any more. */
+    /** Records until the file can't grow. */
     private static void disk(Path file) throws Exception {
         CasHistory history = CasHistory.open(file, new CasHistory.Options().flush().rotate());
         Call call = history.index("a");
@@ -164,8 +164,8 @@ public final class Cases {
         }
         try {
             history.close();
-        } catch (UncheckedIOException told) {
-            System.out.println(calls + " " + told.getMessage());
+        } catch (UncheckedIOException thrown) {
+            System.out.println(calls + " " + thrown.getMessage());
         }
     }
 
@@ -193,8 +193,8 @@ public final class Cases {
         try {
             history.assertExplained(options);
             System.out.println("passed");
-        } catch (AssertionError told) {
-            System.out.println("failed: " + told.getMessage());
+        } catch (AssertionError failure) {
+            System.out.println("failed: " + failure.getMessage());
         }
     }
 }

@@ -46,7 +46,7 @@ import org.opensearch.script.Script;
 import org.opensearch.search.fetch.subphase.FetchSourceContext;
 import org.opensearch.transport.RemoteTransportException;
 
-/** Requests through a recording client, each with an answer: {@code Clients FOLDER}. Each row has a history of its own, by its name. */
+/** Requests through a recording client, each with an answer: {@code Clients FOLDER}. Each row has a history of its own, with its name. */
 public final class Clients {
     private static final Map<String, Object> SOURCE = Map.of("x", 1, "y", List.of("a", Map.of("z", 1.5)));
     private static final Exception CONFLICT = remote(new VersionConflictEngineException("[d]: version conflict"));
@@ -69,11 +69,11 @@ public final class Clients {
         clients.gets();
         clients.several();
         clients.sources();
-        clients.untellable();
+        clients.unrecordable();
         clients.ended();
     }
 
-    /** A node that gives this answer: a response, an exception for the listener, or one that is thrown. */
+    /** A node that answers with a response, with an exception for the listener, or by throwing one. */
     private static final class Node implements Client {
         private final Object answer;
 
@@ -113,27 +113,27 @@ public final class Clients {
         }
     }
 
-    /** Asks, and sees that the answer reaches who asked. */
+    /** Sends a request, and checks that the listener gets the answer. */
     private <R extends ActionResponse> void ask(ActionType<R> action, ActionRequest request, Object answer) {
-        Object[] told = new Object[1];
+        Object[] outcome = new Object[1];
         ActionListener<R> listener = new ActionListener<>() {
             @Override
             public void onResponse(R response) {
-                told[0] = response;
+                outcome[0] = response;
             }
 
             @Override
             public void onFailure(Exception fault) {
-                told[0] = fault;
+                outcome[0] = fault;
             }
         };
         try {
             new RecordingClient(new Node(answer), index, "node-1").execute(action, request, listener);
         } catch (Error thrown) {
-            told[0] = thrown;
+            outcome[0] = thrown;
         }
-        if (told[0] != answer) {
-            throw new AssertionError(name + ": the answer was " + told[0]);
+        if (outcome[0] != answer) {
+            throw new AssertionError(name + ": the answer was " + outcome[0]);
         }
     }
 
@@ -240,7 +240,7 @@ public final class Clients {
             .add(update());
     }
 
-    /** A get shows a number that stands for its source; after a write of an unknown source only if the pair tells whose it is. */
+    /** A get is recorded with the number of its source; after a write of an unknown source only if the pair identifies its write. */
     private void sources() {
         begin("sources");
         ask(IndexAction.INSTANCE, index(), new IndexResponse("d", 0, 1, Result.CREATED));
@@ -255,15 +255,15 @@ public final class Clients {
         ask(IndexAction.INSTANCE, new IndexRequest("carts").id("unread"), new IndexResponse("unread", 4, 1, Result.CREATED));
     }
 
-    /** A request of which nobody can know what it writes ends the recording; one for another index doesn't. */
-    private void untellable() {
+    /** A request ends the recording if it isn't known what it writes; one for another index doesn't. */
+    private void unrecordable() {
         List<IndexRequest> wrong = Arrays.asList(
             new IndexRequest("carts").source(SOURCE),
             index().setPipeline("p"),
             new IndexRequest("carts").id("").source(SOURCE)
         );
         for (int i = 0; i < wrong.size(); i++) {
-            ending("untellable-" + i, IndexAction.INSTANCE, wrong.get(i));
+            ending("unrecordable-" + i, IndexAction.INSTANCE, wrong.get(i));
         }
         ending("script", UpdateAction.INSTANCE, update().script(new Script()));
         ending("pipeline", BulkAction.INSTANCE, bulk().pipeline("p"));

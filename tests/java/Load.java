@@ -12,7 +12,7 @@ import java.util.concurrent.atomic.AtomicLong;
 
 /**
  * Threads that read and write documents of a linearizable store, and record it: {@code Load FILE THREADS CALLS ROUNDS WORD..}. Each round
- * has its own file, FILE-1 and on; a line says how many calls it took, and in how many seconds all was in the file. The words are options.
+ * has its own file, FILE-1 and on, and a line with its calls, and the seconds until all were in the file. The words are options.
  */
 public final class Load {
     private static final int DOCUMENTS = 256;
@@ -99,7 +99,7 @@ public final class Load {
         for (int i = 0; i < calls; i++) {
             int at = random.nextInt(DOCUMENTS);
             if (takesNewDocuments) {
-                // (all threads take others every so often, so that each is first asked for by several at once)
+                // (all threads take new documents every so often, so that several threads use a new one at once)
                 long generation = turns.getAndIncrement() / CALLS_OF_A_GENERATION;
                 one(random, generations.computeIfAbsent(generation, it -> documents())[at], "d" + generation + "-" + at);
             } else {
@@ -135,7 +135,7 @@ public final class Load {
     }
 
     private void write(Document document, String id, boolean hasCondition) {
-        // (a condition that holds mostly, since it was looked at just now)
+        // (a condition that mostly holds, since the document was read just now)
         long condition = hasCondition ? Math.max(document.seqNo, 0) : CasHistory.NO_SEQ_NO;
         CasHistory.Call call = history.index(id, condition, hasCondition ? 1 : CasHistory.NO_PRIMARY_TERM);
         boolean created;

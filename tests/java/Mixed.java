@@ -27,7 +27,7 @@ import org.opensearch.client.Client;
 import org.opensearch.core.action.ActionListener;
 import org.opensearch.core.action.ActionResponse;
 
-/** All requests that a recording client knows, by several threads on a replicated map: {@code Mixed FILE FAULT OPTION..}. */
+/** All requests that a recording client records, by several threads on a replicated map: {@code Mixed FILE FAULT OPTION..}. */
 public final class Mixed {
     private static final int THREADS = 8;
     private static final int TURNS = 400;
@@ -60,8 +60,8 @@ public final class Mixed {
         try {
             history.assertExplained(List.of(words).subList(2, words.length).toArray(new String[0]));
             System.out.println("passed");
-        } catch (AssertionError told) {
-            System.out.println("failed: " + told.getMessage());
+        } catch (AssertionError failure) {
+            System.out.println("failed: " + failure.getMessage());
         }
     }
 

@@ -35,7 +35,7 @@ import org.opensearch.core.action.ActionListener;
 import org.opensearch.core.action.ActionResponse;
 import org.opensearch.index.engine.VersionConflictEngineException;
 
-/** The example of a cluster's test, on a replicated map in the place of the cluster: {@code OnMap FILE FAULT}. It is a client of it too. */
+/** The example of a cluster's test, on a replicated map instead of the cluster: {@code OnMap FILE FAULT}. It is a client of the map too. */
 public final class OnMap implements Client, ConcurrentVersionedWritesIT.Cluster {
     private static final int ANSWERS_LOST = 20;
 
@@ -50,8 +50,8 @@ public final class OnMap implements Client, ConcurrentVersionedWritesIT.Cluster 
         try {
             ConcurrentVersionedWritesIT.run(new OnMap(Fault.valueOf(words[1])), Paths.get(words[0]), 8, 500);
             System.out.println("passed");
-        } catch (AssertionError told) {
-            System.out.println("failed: " + told.getMessage());
+        } catch (AssertionError failure) {
+            System.out.println("failed: " + failure.getMessage());
         }
     }
 

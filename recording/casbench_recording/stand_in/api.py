@@ -1,4 +1,4 @@
-"""The requests that the stand-in knows, and what answers each."""
+"""The requests that the stand-in supports, and the handler of each."""
 
 from typing import Any, Awaitable, Callable, Dict, List, Optional, Set, Tuple
 
@@ -9,7 +9,7 @@ from .indexes import ShardId
 from .several import bulk, change_all, multiple_get
 
 Action = Callable[[Coordinator, Asked], Awaitable[Answer]]
-"""What answers a request."""
+"""The handler of a request."""
 
 VERSION = {
     "distribution": "opensearch",
@@ -20,14 +20,14 @@ VERSION = {
     "minimum_wire_compatibility_version": "7.10.0",
     "minimum_index_compatibility_version": "7.0.0",
 }
-"""What OpenSearch 2.x says of its version."""
+"""The version that OpenSearch 2.x reports."""
 
 OF_ELASTICSEARCH = {"number": "7.17.0", "build_flavor": "default", "lucene_version": "8.11.1"}
-"""What Elasticsearch says, whose clients look for it."""
+"""The version that Elasticsearch reports, which its clients check."""
 
 
 async def answer_to(coordinator: Coordinator, asked: Asked) -> Answer:
-    """Does what is asked for, and returns the answer."""
+    """Performs a request, and returns the answer."""
     try:
         action = action_for(asked)
         if action is not None:
@@ -38,7 +38,7 @@ async def answer_to(coordinator: Coordinator, asked: Asked) -> Answer:
 
 
 def action_for(asked: Asked) -> Optional[Action]:
-    """What answers this request, if it is known."""
+    """The handler of this request, or None if there is none."""
     for methods, path, action in ROUTES:
         if asked.method in methods and len(path) == len(asked.path):
             if all(it in ("*", word) for it, word in zip(path, asked.path)):
@@ -47,7 +47,7 @@ def action_for(asked: Asked) -> Optional[Action]:
 
 
 def write_by(kind: str) -> Action:
-    """What answers a write of one document."""
+    """The handler of a write of this kind to one document."""
 
     async def write(coordinator: Coordinator, asked: Asked) -> Answer:
         name, document = asked.path[0], asked.path[2] if len(asked.path) > 2 else new_id()
@@ -100,19 +100,19 @@ async def remove(coordinator: Coordinator, asked: Asked) -> Answer:
 
 
 async def describe(coordinator: Coordinator, asked: Asked) -> Answer:
-    """Answers what an index is."""
+    """Answers with the description of an index."""
     index = coordinator.index(asked.path[0])
     return no_index(asked.path[0]) if index is None else (200, {index.name: index.described()})
 
 
 async def describe_settings(coordinator: Coordinator, asked: Asked) -> Answer:
-    """Answers what the settings of an index are."""
+    """Answers with the settings of an index."""
     index = coordinator.index(asked.path[0])
     return no_index(asked.path[0]) if index is None else (200, {index.name: {"settings": {"index": index.settings}}})
 
 
 async def report_stats(coordinator: Coordinator, asked: Asked) -> Answer:
-    """Answers how far the copies of each shard have come."""
+    """Answers with the sequence numbers of the copies of each shard."""
     index = coordinator.index(asked.path[0])
     if index is None:
         return no_index(asked.path[0])
@@ -120,7 +120,7 @@ async def report_stats(coordinator: Coordinator, asked: Asked) -> Answer:
 
 
 def copies_of(coordinator: Coordinator, shard: ShardId) -> List[Dict[str, Any]]:
-    """What the active copies of a shard say of themselves: the greatest number that each has, -1 if it has none."""
+    """What is reported of each active copy of a shard: its node, and its greatest sequence number, -1 if it has none."""
     cluster, routing = coordinator.node.cluster, coordinator.node.state.routings[shard]
     rows = []
     for number in sorted(routing.active):
@@ -133,7 +133,7 @@ def copies_of(coordinator: Coordinator, shard: ShardId) -> List[Dict[str, Any]]:
 
 
 async def report_state(coordinator: Coordinator, asked: Asked) -> Answer:
-    """Answers what the cluster keeps of an index."""
+    """Answers with the metadata of an index."""
     state = coordinator.node.state
     index = state.indexes[asked.path[3]]
     terms = {str(it.number): state.routings[it].term for it in index.shards}
@@ -141,7 +141,7 @@ async def report_state(coordinator: Coordinator, asked: Asked) -> Answer:
 
 
 async def report_shard(coordinator: Coordinator, asked: Asked) -> Answer:
-    """Answers which shard a routing is on, and where its active copies are."""
+    """Answers with the shard of a routing, and with the nodes of its active copies."""
     state, nodes = coordinator.node.state, coordinator.node.cluster.nodes
     index = state.indexes[asked.path[0]]
     shard = index.shards[index.shard_number(asked.words["routing"])]
@@ -152,7 +152,7 @@ async def report_shard(coordinator: Coordinator, asked: Asked) -> Answer:
 
 
 async def list_shards(coordinator: Coordinator, asked: Asked) -> Answer:
-    """Answers where the active copies of an index are, in the words of `_cat/shards?format=json`."""
+    """Answers with the nodes of the active copies of an index, in the format of `_cat/shards?format=json`."""
     state, nodes = coordinator.node.state, coordinator.node.cluster.nodes
     rows = []
     for shard in state.indexes[asked.path[2]].shards:
@@ -164,7 +164,7 @@ async def list_shards(coordinator: Coordinator, asked: Asked) -> Answer:
 
 
 async def reroute(coordinator: Coordinator, asked: Asked) -> Answer:
-    """Has nodes give up primaries, as the command `cancel` asks for; no other one is known."""
+    """Has nodes give up primaries, by the command `cancel`; no other command is supported."""
     node = coordinator.node
     names = [it.name for it in node.cluster.nodes]
     for command in asked.value["commands"]:
@@ -176,7 +176,7 @@ async def reroute(coordinator: Coordinator, asked: Asked) -> Answer:
 
 
 async def report_health(coordinator: Coordinator, asked: Asked) -> Answer:
-    """Answers how many copies are active."""
+    """Answers with the number of active copies."""
     state, manager = coordinator.node.state, coordinator.node.cluster.manager
     wanted = sum(len(it.shards) * (it.replicas + 1) for it in state.indexes.values())
     active = sum(len(it.active) for it in state.routings.values())
@@ -187,13 +187,13 @@ async def report_health(coordinator: Coordinator, asked: Asked) -> Answer:
 
 
 async def greet(coordinator: Coordinator, asked: Asked) -> Answer:
-    """Answers who this is, as OpenSearch does."""
+    """Answers with name and version, as OpenSearch does."""
     names = {"name": coordinator.node.name, "cluster_name": "stand-in", "cluster_uuid": "c3RhbmQtaW4tb2YtYS1jbA"}
     return 200, {**names, "version": VERSION, "tagline": "The OpenSearch Project: https://opensearch.org/"}
 
 
 async def greet_as_elasticsearch(coordinator: Coordinator, asked: Asked) -> Answer:
-    """Answers who this is, as Elasticsearch does."""
+    """Answers with name and version, as Elasticsearch does."""
     return 200, {"name": "stand-in", "version": OF_ELASTICSEARCH, "tagline": "You Know, for Search"}
 
 

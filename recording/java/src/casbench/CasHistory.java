@@ -25,11 +25,11 @@ import java.util.concurrent.atomic.LongAdder;
 import java.util.concurrent.locks.LockSupport;
 
 /**
- * Records what a test asks of a store and what the store answers, as a history text that casbench judges.
+ * Records the calls of a test to a store and the store's replies, as a history that casbench checks.
  *
  * <pre>
  * try (CasHistory history = CasHistory.open(path)) {
- *     CasHistory.Call call = history.index("cart-17", ifSeqNo, ifPrimaryTerm);   // before the request leaves
+ *     CasHistory.Call call = history.index("cart-17", ifSeqNo, ifPrimaryTerm);   // before the request is sent
  *     IndexResponse response = client.index(.. call.value() ..);
  *     call.indexed(response.getSeqNo(), response.getPrimaryTerm(), response.getResult() == CREATED);
  *     history.assertExplained("--profile", "opensearch");
@@ -37,18 +37,18 @@ import java.util.concurrent.locks.LockSupport;
  * </pre>
  *
  * <p>Any thread may use it. A call is an event, and so is its ending. One counter gives each event its place; the event goes into the
- * slot of that place without a lock, and one thread writes the slots to the file in their order. So the file is always a beginning of
- * the order: with an event it has every one that may have caused it. A file that ends early, as that of a process that was killed, is
- * a right history of fewer events.
+ * slot of that place without a lock, and one thread writes the slots to the file in their order. So the file is always a prefix of
+ * the order: with an event it has every one that may have caused it. A file that ends early, because the process was killed, is a
+ * valid history of fewer events.
  *
- * <p>A call without an ending is one whose outcome is unknown. It is JDK 11 and no more.
+ * <p>The outcome of a call without an ending is unknown. This class needs JDK 11 and nothing else.
  */
 public final class CasHistory implements AutoCloseable {
 
-    /** What OpenSearch has in the place of {@code if_seq_no} for a write without a condition. */
+    /** OpenSearch's value of {@code if_seq_no} for a write without a condition. */
     public static final long NO_SEQ_NO = -2;
 
-    /** What OpenSearch has in the place of {@code if_primary_term} for a write without a condition. */
+    /** OpenSearch's value of {@code if_primary_term} for a write without a condition. */
     public static final long NO_PRIMARY_TERM = 0;
 
     /** The most events of a history. A call takes the room of its own event and of its ending. */
@@ -75,7 +75,7 @@ public final class CasHistory implements AutoCloseable {
         this.current = begun(1);
     }
 
-    /** Makes the file, which may not be there, and begins with the history. Throws UncheckedIOException if it can't be made. */
+    /** Creates the file, which may not exist, and begins the history. Throws UncheckedIOException if it can't be created. */
     public static CasHistory open(Path path) {
         return open(path, new Options());
     }
@@ -85,7 +85,7 @@ public final class CasHistory implements AutoCloseable {
         return new CasHistory(path, options.copy());
     }
 
-    /** How a history is recorded. */
+    /** The options of a recording. */
     public static final class Options {
         private boolean flushes;
         private boolean rotates;
@@ -93,7 +93,7 @@ public final class CasHistory implements AutoCloseable {
         private int mostEvents = MOST_EVENTS;
 
         /**
-         * Each line is handed to the operating system before the method that records it returns. Without it a line may be some
+         * Each line is written to the operating system before the method that records it returns. Without this a line may be some
          * milliseconds late, and a process that is killed leaves a shorter history.
          */
         public Options flush() {
@@ -103,7 +103,7 @@ public final class CasHistory implements AutoCloseable {
 
         /**
          * When a file is full the next one begins, {@code NAME-2.ndjson} beside {@code NAME.ndjson}. A document stays in the file of its
-         * first call: after that file is full its calls are left out. So a test that goes on takes new documents.
+         * first call: after that file is full its calls are left out. So a test that goes on needs new documents.
          */
         public Options rotate() {
             rotates = true;
@@ -111,15 +111,15 @@ public final class CasHistory implements AutoCloseable {
         }
 
         /**
-         * The history isn't checked under {@code --profile opensearch}, nor with {@code --writes repeated}: a file has room for 524,288
-         * calls. Else a write without a condition takes the room of three events, so that it may have been performed twice.
+         * For a history that isn't checked under {@code --profile opensearch} or with {@code --writes repeated}: a file has room for
+         * 524,288 calls. Else a write without a condition takes the room of three events, because it may have been performed twice.
          */
         public Options strict() {
             isStrict = true;
             return this;
         }
 
-        /** A file has room for so many events, instead of 1,048,576. */
+        /** A file has room for this many events instead of 1,048,576. */
         public Options mostEvents(int events) {
             require(events >= 3 && events <= MOST_EVENTS, "a file has room for 3 to 1048576 events, and not for " + events);
             mostEvents = events;
@@ -136,7 +136,7 @@ public final class CasHistory implements AutoCloseable {
         }
     }
 
-    /** What a call asks. */
+    /** The kind of an operation. */
     public enum Op {
         GET("get"),
         INDEX("index"),
@@ -154,7 +154,7 @@ public final class CasHistory implements AutoCloseable {
         }
     }
 
-    /** What a call asks, in full. What no history can have is refused with IllegalArgumentException. */
+    /** The operation of a call. A value that no history can have is refused with IllegalArgumentException. */
     public static final class Operation {
         private final Op op;
         private final String id;
@@ -173,7 +173,7 @@ public final class CasHistory implements AutoCloseable {
             this.id = id;
         }
 
-        /** The number that an index or a create writes, below 2^64: an unsigned long. Without it, it is the number of the call. */
+        /** The number that an index or a create writes, below 2^64: an unsigned long. By default it is the number of the call. */
         public Operation value(long value) {
             require(op.writesAValue(), "a " + op.text + " writes no value");
             this.value = value;
@@ -181,7 +181,7 @@ public final class CasHistory implements AutoCloseable {
             return this;
         }
 
-        /** The pair that the document must have. OpenSearch's own values for none, -2 and 0, are none. */
+        /** The pair that the document must have. OpenSearch's -2 and 0 mean no condition. */
         public Operation condition(long ifSeqNo, long ifPrimaryTerm) {
             boolean isNone = ifSeqNo == NO_SEQ_NO && ifPrimaryTerm == NO_PRIMARY_TERM;
             require(isNone || isPair(ifSeqNo, ifPrimaryTerm), "no condition: if_seq_no " + ifSeqNo + ", if_primary_term " + ifPrimaryTerm);
@@ -198,13 +198,13 @@ public final class CasHistory implements AutoCloseable {
             return this;
         }
 
-        /** Who asks, a text of at most 256 bytes. */
+        /** The name of the client, a text of 1 to 256 bytes. */
         public Operation client(String client) {
             this.client = nameIf(client);
             return this;
         }
 
-        /** The node that is asked, a text of at most 256 bytes. */
+        /** The node that the request goes to, a text of 1 to 256 bytes. */
         public Operation node(String node) {
             this.node = nameIf(node);
             return this;
@@ -219,7 +219,7 @@ public final class CasHistory implements AutoCloseable {
 
     // Calls
 
-    /** Records a get. As all of these it is called before the request leaves. */
+    /** Records a get. Like each method that records a call, it is called before the request is sent. */
     public Call get(String id) {
         return call(new Operation(Op.GET, id));
     }
@@ -229,12 +229,12 @@ public final class CasHistory implements AutoCloseable {
         return call(new Operation(Op.INDEX, id));
     }
 
-    /** Records a write of {@code call.value()} under a condition; -2 and 0 are none. */
+    /** Records a write of {@code call.value()} under a condition; -2 and 0 mean no condition. */
     public Call index(String id, long ifSeqNo, long ifPrimaryTerm) {
         return call(new Operation(Op.INDEX, id).condition(ifSeqNo, ifPrimaryTerm));
     }
 
-    /** Records a write of {@code call.value()} to a document that isn't there. */
+    /** Records a write of {@code call.value()} to a document that doesn't exist. */
     public Call create(String id) {
         return call(new Operation(Op.CREATE, id));
     }
@@ -244,17 +244,17 @@ public final class CasHistory implements AutoCloseable {
         return call(new Operation(Op.DELETE, id));
     }
 
-    /** Records a delete under a condition; -2 and 0 are none. */
+    /** Records a delete under a condition; -2 and 0 mean no condition. */
     public Call delete(String id, long ifSeqNo, long ifPrimaryTerm) {
         return call(new Operation(Op.DELETE, id).condition(ifSeqNo, ifPrimaryTerm));
     }
 
     /**
-     * Records a call. If there is no room for it the calls that are open are lost first, so that what was recorded stays right, and this
-     * call has no line; the test goes on.
+     * Records a call. If there is no room for it, the open calls are recorded as lost first, so that what was recorded stays valid, and
+     * this call has no line; the test goes on.
      */
     public Call call(Operation operation) {
-        // (a document whose file takes no more calls has none in a later file either: what is left out of it shows in no file)
+        // (a document whose file takes no more calls has none in a later file either: that would show calls that were left out)
         Document document = documentOf(operation);
         Call call = new Call(document.part, operation, document.quotedId);
         if (!document.part.begin(call)) {
@@ -266,7 +266,7 @@ public final class CasHistory implements AutoCloseable {
         return call;
     }
 
-    /** Puts a note on the next line, such as what was done to the store. It has at most 1,000 letters; what isn't ASCII is escaped. */
+    /** Puts a note on the next line, such as what was done to the store. At most 1,000 characters; those that aren't ASCII are escaped. */
     public void note(String text) {
         current.note(text);
     }
@@ -286,7 +286,7 @@ public final class CasHistory implements AutoCloseable {
         return document;
     }
 
-    /** A document: its id as lines have it, the file that its calls are in, and its shard. */
+    /** A document: its id as JSON text, the file of its calls, and its shard. */
     private static final class Document {
         private final byte[] quotedId;
         private final Part part;
@@ -299,7 +299,7 @@ public final class CasHistory implements AutoCloseable {
         }
     }
 
-    /** A call that was made. Its first ending counts; what comes later, or after the history was closed, is dropped. */
+    /** A call. Its first ending counts; a later one, or one after the history was closed, is dropped. */
     public static final class Call extends Event {
         private static final AtomicIntegerFieldUpdater<Call> ENDED = AtomicIntegerFieldUpdater.newUpdater(Call.class, "ended");
 
@@ -348,51 +348,51 @@ public final class CasHistory implements AutoCloseable {
 
         /** The write was performed, with this pair, and made the document or replaced a version of it. */
         public boolean indexed(long seqNo, long primaryTerm, boolean created) {
-            says(op.writesAValue(), "indexed");
+            requireReply(op.writesAValue(), "indexed");
             return end(shown(created ? 201 : 200, created ? "created" : "updated", seqNo, primaryTerm, 0));
         }
 
         /** The delete was performed, with this pair, and the document was there or not. */
         public boolean deleted(long seqNo, long primaryTerm, boolean found) {
-            says(op == Op.DELETE, "deleted");
+            requireReply(op == Op.DELETE, "deleted");
             return end(shown(found ? 200 : 404, found ? "deleted" : "not_found", seqNo, primaryTerm, 0));
         }
 
         /** The get found the version with this pair, which holds this number. */
         public boolean found(long seqNo, long primaryTerm, long k) {
-            says(op == Op.GET, "found");
+            requireReply(op == Op.GET, "found");
             return end(shown(200, null, seqNo, primaryTerm, k));
         }
 
         /** The get found no document. */
         public boolean missing() {
-            says(op == Op.GET, "missing");
+            requireReply(op == Op.GET, "missing");
             return end(new Ending(number, quotedId, 404, null, NO_SEQ_NO, NO_PRIMARY_TERM, 0));
         }
 
-        /** The write was refused, since the document was in a state that refuses it: OpenSearch's version conflict. */
+        /** The write was refused because of the state of the document: OpenSearch's version conflict. */
         public boolean conflict() {
-            says(op != Op.GET, "a conflict");
+            requireReply(op != Op.GET, "a conflict");
             return end(new Ending(number, quotedId, 409, null, NO_SEQ_NO, NO_PRIMARY_TERM, 0));
         }
 
-        /** The outcome will never be known: a timeout, a lost connection, any exception that doesn't state what was done. */
+        /** The outcome is unknown, as after a timeout, a lost connection, or any exception that doesn't show what was done. */
         public boolean unknown() {
             return end(Ending.withoutReply(number, false));
         }
 
-        /** Nothing was performed, at no attempt, and the reply proves it. A timeout, a 503 or a block proves nothing of the kind. */
+        /** No attempt performed anything, and the reply proves it. A timeout, a 503 or a block doesn't prove it. */
         public boolean refused() {
             return end(Ending.withoutReply(number, true));
         }
 
-        /** A reply without a pair doesn't say which version it is of: the outcome is unknown. */
+        /** The ending by a reply. Without a pair the version isn't known, and the outcome is unknown. */
         private Ending shown(int status, String result, long seqNo, long primaryTerm, long k) {
             boolean hasPair = isPair(seqNo, primaryTerm);
             return hasPair ? new Ending(number, quotedId, status, result, seqNo, primaryTerm, k) : Ending.withoutReply(number, false);
         }
 
-        private void says(boolean isSo, String reply) {
+        private void requireReply(boolean isSo, String reply) {
             require(isSo, "a " + op.text + " can't be answered as " + reply);
         }
 
@@ -436,12 +436,12 @@ public final class CasHistory implements AutoCloseable {
         }
     }
 
-    /** What has a line of its own. */
+    /** An event, which has a line of its own. */
     private abstract static class Event {
-        /** When it happened, in milliseconds since 1970. No order is made of it. */
+        /** Its time, in milliseconds since 1970. The order doesn't depend on it. */
         final long time = System.currentTimeMillis();
 
-        /** Writes its line, and heeds which calls are open then. */
+        /** Writes its line, and updates which calls are open. */
         abstract void write(Line line, boolean[] open);
     }
 
@@ -508,12 +508,12 @@ public final class CasHistory implements AutoCloseable {
 
     // Files
 
-    /** How many calls have no line, since there was no room for them. */
+    /** How many calls have no line because there was no room for them. */
     public long leftOut() {
         return leftOut.sum();
     }
 
-    /** How many endings were dropped, since the call had one already or the history was closed. */
+    /** How many endings were dropped because the call had one already or the history was closed. */
     public long late() {
         return late.sum();
     }
@@ -530,8 +530,8 @@ public final class CasHistory implements AutoCloseable {
     }
 
     /**
-     * Ends the history: the calls that are open are lost, and no more are recorded. When it returns, all lines are in the file. A file
-     * without a call is removed. Throws UncheckedIOException if a line couldn't be written; the lines before are whole.
+     * Ends the history: the open calls are recorded as lost, and no more are recorded. When it returns, all lines are in the file. A
+     * file without a call is removed. Throws UncheckedIOException if a line couldn't be written; the lines before it are complete.
      */
     @Override
     public void close() {
@@ -548,7 +548,7 @@ public final class CasHistory implements AutoCloseable {
         }
     }
 
-    /** Begins with the next file. If it can't be made the history ends, and `close` throws. */
+    /** Begins the next file. If it can't be created, the history ends, and `close` throws. */
     private void rotate(Part full) {
         synchronized (parts) {
             if (current == full && !hasEnded) {
@@ -580,7 +580,7 @@ public final class CasHistory implements AutoCloseable {
 
     /** A file, and the slots of its events. */
     private static final class Part {
-        /** What is added to the state when no more events are taken. */
+        /** The bit of the state that is set when no more events are accepted. */
         private static final long CLOSED = Long.MIN_VALUE;
 
         private final Path file;
@@ -590,7 +590,7 @@ public final class CasHistory implements AutoCloseable {
         private final Writer writer;
         private final Thread thread;
 
-        /** In the lower half how many events there are, above it how much room their calls take; the sign says that no more are taken. */
+        /** The lower half is the number of events, the upper half the room of their calls; if negative, no more events are accepted. */
         private final AtomicLong state = new AtomicLong();
 
         private Part(Path file, Options options, LongAdder late, Runnable ended) throws IOException {
@@ -606,7 +606,7 @@ public final class CasHistory implements AutoCloseable {
             thread.start();
         }
 
-        /** Records a call; false if no more are taken, or if there is no room for it, after which no more are. */
+        /** Records a call; false if no more are accepted. If there is no room for it, none are accepted from then on. */
         private boolean begin(Call call) {
             int room = call.room(options.isStrict);
             while (true) {
@@ -627,7 +627,7 @@ public final class CasHistory implements AutoCloseable {
             }
         }
 
-        /** Records the ending of a call, whose room was taken with the call; false if no more events are taken. */
+        /** Records the ending of a call, whose room was reserved with the call; false if no more events are accepted. */
         private boolean end(Ending ending) {
             long seen = state.getAndIncrement();
             if (seen >= 0) {
@@ -657,7 +657,7 @@ public final class CasHistory implements AutoCloseable {
             return (int) state.get() > 0;
         }
 
-        /** Takes no more events. What was taken before is still written, and then what is open as lost. */
+        /** Accepts no more events. Those before are still written, and then the open calls as lost. */
         private void close() {
             long seen = state.getAndAccumulate(CLOSED, (was, closed) -> was | closed);
             if (seen >= 0) {
@@ -666,7 +666,7 @@ public final class CasHistory implements AutoCloseable {
             }
         }
 
-        /** Waits until all is written; returns why it couldn't be, or null. */
+        /** Waits until all events are written; returns the error if one couldn't be, or null. */
         private UncheckedIOException await() {
             boolean wasInterrupted = false;
             while (thread.isAlive()) {
@@ -707,7 +707,7 @@ public final class CasHistory implements AutoCloseable {
         private final ConcurrentLinkedQueue<Note> notes;
         private final boolean flushes;
         private final Runnable failed;
-        // (of a file that is written to its end none of these is kept)
+        // (these are released when the file is complete)
         private AtomicReferenceArray<Event> slots;
         private boolean[] open;
         private Line line = new Line(MOST_BYTES);
@@ -732,7 +732,7 @@ public final class CasHistory implements AutoCloseable {
             }
         }
 
-        /** Has no more events written than so many. */
+        /** Sets how many events are written. */
         private void endAt(int events) {
             end = events;
         }
@@ -752,7 +752,7 @@ public final class CasHistory implements AutoCloseable {
                 fail(new IOException(why));
             } finally {
                 closeFile();
-                tell(at, true);
+                publish(at, true);
             }
         }
 
@@ -767,7 +767,7 @@ public final class CasHistory implements AutoCloseable {
                 } else if (line.length() > 0) {
                     flush();
                 } else {
-                    // (an interruption would close the file, and is nobody's business)
+                    // (an interrupt would close the file, and has no other meaning here)
                     Thread.interrupted();
                     LockSupport.parkNanos(this, rest);
                     rest = Math.min(rest * 2, LONGEST_REST);
@@ -811,10 +811,10 @@ public final class CasHistory implements AutoCloseable {
                 channel.write(bytes);
             }
             length += count;
-            tell(at, false);
+            publish(at, false);
         }
 
-        /** Ends the history, and cuts off the line that was not written whole. */
+        /** Ends the history, and cuts off a line that was not written completely. */
         private void fail(IOException why) {
             fault = why;
             failed.run();
@@ -836,8 +836,8 @@ public final class CasHistory implements AutoCloseable {
             }
         }
 
-        /** Says how many events are in the file, to whom waits for that. */
-        private void tell(int events, boolean isLast) {
+        /** Publishes how many events are in the file, to the threads that wait for that. */
+        private void publish(int events, boolean isLast) {
             if (flushes) {
                 synchronized (this) {
                     written = events;
@@ -847,7 +847,7 @@ public final class CasHistory implements AutoCloseable {
             }
         }
 
-        /** Waits until the event in this slot is in the file, or can't come there any more. */
+        /** Waits until the event in this slot is in the file, or can no longer be written. */
         private void awaitWritten(Thread thread, int slot) {
             boolean wasInterrupted = false;
             LockSupport.unpark(thread);
@@ -883,7 +883,7 @@ public final class CasHistory implements AutoCloseable {
             return length;
         }
 
-        /** The bytes, of which none are left here. */
+        /** Removes the bytes, and returns them. */
         private ByteBuffer taken() {
             ByteBuffer taken = ByteBuffer.wrap(bytes, 0, length);
             length = 0;
@@ -919,7 +919,7 @@ public final class CasHistory implements AutoCloseable {
             return this;
         }
 
-        /** The member of the time, whose text mostly is that of the line before. */
+        /** The member of the time, whose text is mostly that of the line before. */
         private Line time(long time) {
             if (time != lastTime) {
                 lastTime = time;
@@ -960,15 +960,15 @@ public final class CasHistory implements AutoCloseable {
     // The verdict
 
     /**
-     * Closes the history, and has casbench judge each file, with options such as {@code "--profile", "opensearch"}.
+     * Closes the history, and checks each file with casbench, with options such as {@code "--profile", "opensearch"}.
      *
      * <p>The program is the one that the system property {@code casbench.program} names, or else the environment variable
-     * {@code CASBENCH}, or else {@code casbench} on the path. Without any, or where no process may be started, the files stay, and a line
-     * on standard error says how to check them.
+     * {@code CASBENCH}, or else {@code casbench} on the path. If there is none, or if no process may be started, the files are kept, and
+     * a line on standard error shows how to check them.
      *
-     * @throws AssertionError with what {@code casbench explain} says, if provably nothing explains a history, or it is no history, or
-     *     it has fewer calls than {@code --at-least}; or if nothing was recorded, or the program failed. A {@code no} that isn't proved
-     *     accuses nobody: its explanation goes to standard error.
+     * @throws AssertionError with the output of {@code casbench explain}, if provably nothing explains a history, or if it is refused; or
+     *     if it has fewer calls than {@code --at-least}, if nothing was recorded, or if the program failed. A {@code no} that isn't proved
+     *     accuses nobody: its explanation is printed on standard error.
      */
     public void assertExplained(String... options) {
         close();
@@ -982,12 +982,12 @@ public final class CasHistory implements AutoCloseable {
         }
     }
 
-    /** Whether there is a program that {@link #assertExplained} runs; without one it judges nothing. */
+    /** Whether there is a program that {@link #assertExplained} runs; without one nothing is judged. */
     public static boolean hasProgram() {
         return Judge.found().program != null;
     }
 
-    /** The program, if it is there. */
+    /** The program, if there is one. */
     private static final class Judge {
         private static final int TOO_FEW = 6;
 
@@ -1023,7 +1023,7 @@ public final class CasHistory implements AutoCloseable {
             try {
                 Ran checked = program == null ? null : ran("check", withRuleOut(options), file);
                 if (checked == null) {
-                    sayHow(file, options, "casbench isn't here");
+                    printHow(file, options, "casbench isn't here");
                 } else if (checked.status == TOO_FEW) {
                     throw new AssertionError(checked.text.trim());
                 } else if (checked.status == 1 || checked.status == 2) {
@@ -1032,16 +1032,16 @@ public final class CasHistory implements AutoCloseable {
                     throw new AssertionError("casbench could not check " + file + ": status " + checked.status + "\n" + checked.text);
                 }
             } catch (SecurityException denied) {
-                sayHow(file, options, "no process may be started here");
+                printHow(file, options, "no process may be started here");
             } catch (IOException fault) {
                 if (isNamed) {
                     throw new AssertionError("casbench can't be run: " + fault.getMessage(), fault);
                 }
-                sayHow(file, options, "casbench can't be run: " + fault.getMessage());
+                printHow(file, options, "casbench can't be run: " + fault.getMessage());
             }
         }
 
-        /** Fails with the explanation, but for a no that isn't proved. */
+        /** Fails with the explanation, except for a no that isn't proved. */
         private static void heed(Path file, Ran explained, List<String> options) {
             if (explained.status > 2) {
                 throw new AssertionError("casbench could not explain " + file + ": status " + explained.status + "\n" + explained.text);
@@ -1054,7 +1054,7 @@ public final class CasHistory implements AutoCloseable {
             }
         }
 
-        private static void sayHow(Path file, List<String> options, String why) {
+        private static void printHow(Path file, List<String> options, String why) {
             String words = String.join(" ", withRuleOut(options));
             System.err.println(why + ", so nothing was judged. To check: casbench check " + words + " " + file);
         }
@@ -1096,7 +1096,7 @@ public final class CasHistory implements AutoCloseable {
         }
     }
 
-    /** How a run of the program ended, and what it wrote: an object of JSON, and lines of standard error. */
+    /** The exit status of a run of the program, and its output: a JSON object, and lines of standard error. */
     private static final class Ran {
         private final int status;
         private final String text;
@@ -1118,7 +1118,7 @@ public final class CasHistory implements AutoCloseable {
             return member("explanation");
         }
 
-        /** A member that is a text. Within a text each quotation mark has a backslash before it, so none looks like a member. */
+        /** The value of a string member. Within a string each quotation mark is escaped, so none looks like a member. */
         private String member(String name) {
             String start = "\"" + name + "\":\"";
             int at = text.indexOf(start);
@@ -1152,7 +1152,7 @@ public final class CasHistory implements AutoCloseable {
         return seqNo >= 0 && primaryTerm >= 1;
     }
 
-    /** How many bytes a text has in UTF-8; 0 of none, and of one with half of a surrogate pair. */
+    /** How many bytes a text has in UTF-8; 0 for null, and for a text with an unpaired surrogate. */
     private static int lengthOf(String text) {
         int length = 0;
         for (int i = 0; text != null && i < text.length(); i++) {

@@ -44,7 +44,7 @@ import org.opensearch.index.mapper.MapperParsingException;
 import org.opensearch.search.fetch.subphase.FetchSourceContext;
 
 /**
- * A client of a node that records what it asks of one index: index, create, get, delete, update by a part, bulk and multi-get.
+ * A client of a node that records its requests to one index: index, create, get, delete, partial update, bulk and multi-get.
  *
  * <pre>
  * RecordingClient.Index carts = new RecordingClient.Index(history, "carts");
@@ -52,14 +52,14 @@ import org.opensearch.search.fetch.subphase.FetchSourceContext;
  * </pre>
  *
  * <p>Calls are recorded before a request is passed on, endings before an answer is. The number of a version is a digest of its source.
- * What can't be told makes a call unknown. If nobody can know what a request writes, the recording ends before it is passed on, and what
- * was recorded stays right. Requests and answers aren't changed.
+ * A call is unknown if the answer doesn't show its outcome. If it isn't known what a request writes, the recording ends before the request
+ * is passed on, and what was recorded stays valid. Requests and answers aren't changed.
  */
 public final class RecordingClient extends FilterClient {
     private final Index index;
     private final String node;
 
-    /** A client that asks through another one, which is of this node; null if that isn't known. */
+    /** A client that passes its requests on to another one, of this node; null if the node isn't known. */
     public RecordingClient(Client in, Index index, String node) {
         super(in);
         this.index = index;
@@ -94,7 +94,7 @@ public final class RecordingClient extends FilterClient {
         }
     }
 
-    /** The index that is recorded, which was empty when the recording began. Its clients share this. */
+    /** The recorded index, which was empty when the recording began. Its clients share this object. */
     public static final class Index {
         private static final long OF_UNKNOWN_SOURCE = 1;
 
@@ -105,12 +105,12 @@ public final class RecordingClient extends FilterClient {
         private final Map<String, Updated> updated = new ConcurrentHashMap<>();
         private volatile String ended;
 
-        /** An index of one shard, by its name, and all aliases of it. */
+        /** An index of one shard, with its name and all its aliases. */
         public Index(CasHistory history, String name, String... aliases) {
             this(history, null, name, aliases);
         }
 
-        /** An index of several shards: which one a document is on, by its id. */
+        /** An index of several shards, with a function from an id to its shard. */
         public Index(CasHistory history, ToIntFunction<String> shardOf, String name, String... aliases) {
             this.history = history;
             this.hasOneShard = shardOf == null;
@@ -119,12 +119,12 @@ public final class RecordingClient extends FilterClient {
             this.names.add(name);
         }
 
-        /** Why the recording ended before its time, or null. */
+        /** Why the recording ended early, or null. */
         public String ended() {
             return ended;
         }
 
-        /** The calls of a request, recorded; null stands for a part that is none. */
+        /** Records the calls of a request, and returns them; null stands for an item without a call. */
         private List<Part> asked(String action, ActionRequest request, String node) {
             List<Part> parts = new ArrayList<>();
             if (ended != null) {
@@ -132,7 +132,7 @@ public final class RecordingClient extends FilterClient {
             }
             try {
                 ask(action, request, node, parts);
-            } catch (Untellable why) {
+            } catch (Unrecordable why) {
                 end(why.getMessage());
             } catch (RuntimeException why) {
                 end("a request can't be recorded: " + why);
@@ -140,12 +140,12 @@ public final class RecordingClient extends FilterClient {
             return parts;
         }
 
-        private void ask(String action, ActionRequest request, String node, List<Part> parts) throws Untellable {
+        private void ask(String action, ActionRequest request, String node, List<Part> parts) throws Unrecordable {
             if (request instanceof DocWriteRequest) {
                 parts.add(write((DocWriteRequest<?>) request, node, request instanceof UpdateRequest));
             } else if (request instanceof BulkRequest) {
                 BulkRequest bulk = (BulkRequest) request;
-                tellable(hasNoPipeline(bulk.pipeline()) || names(bulk).stream().noneMatch(names::contains), "a bulk request has a pipeline");
+                require(hasNoPipeline(bulk.pipeline()) || names(bulk).stream().noneMatch(names::contains), "a bulk request has a pipeline");
                 boolean isOfOneShard = hasOneShard && names.containsAll(names(bulk));
                 for (DocWriteRequest<?> item : bulk.requests()) {
                     parts.add(write(item, node, !isOfOneShard));
@@ -163,7 +163,7 @@ public final class RecordingClient extends FilterClient {
                     parts.add(get(item.index(), item.id(), item.routing(), isLatest, isWhole, node));
                 }
             } else {
-                tellable(!Others.mayWrite(action, request, names), "a request of " + action + " may change documents");
+                require(!Others.mayWrite(action, request, names), "a request of " + action + " may change documents");
             }
         }
 
@@ -173,12 +173,12 @@ public final class RecordingClient extends FilterClient {
             return names;
         }
 
-        private Part write(DocWriteRequest<?> request, String node, boolean mayHaveBegun) throws Untellable {
+        private Part write(DocWriteRequest<?> request, String node, boolean mayHaveBegun) throws Unrecordable {
             if (!names.contains(request.index())) {
                 return null;
             }
-            tellable(request.id() != null, "a write has no id, so the document's is known too late");
-            tellable(hasOneShard || request.routing() == null, "a write has a routing, so its shard isn't known");
+            require(request.id() != null, "a write has no id, so the document's is known too late");
+            require(hasOneShard || request.routing() == null, "a write has a routing, so its shard isn't known");
             CasHistory.Op op = opOf(request);
             CasHistory.Operation operation = operation(op, request.id(), node);
             // (a create takes no condition, and a request that has one is refused by its validation)
@@ -205,15 +205,15 @@ public final class RecordingClient extends FilterClient {
             }
         }
 
-        /** The number of the source that a write writes; all sources that nobody knows have one. */
-        private long numberOf(DocWriteRequest<?> request) throws Untellable {
+        /** The number of the source that a write writes; all unknown sources have the same one. */
+        private long numberOf(DocWriteRequest<?> request) throws Unrecordable {
             if (request instanceof UpdateRequest) {
                 UpdateRequest update = (UpdateRequest) request;
-                tellable(update.script() == null, "an update has a script, which may delete the document");
+                require(update.script() == null, "an update has a script, which may delete the document");
                 return numberOfUnknown(request.id());
             }
             IndexRequest index = (IndexRequest) request;
-            tellable(hasNoPipeline(index.getPipeline()), "a write has a pipeline");
+            require(hasNoPipeline(index.getPipeline()), "a write has a pipeline");
             try {
                 return Sources.numberOf(index.sourceAsMap());
             } catch (RuntimeException unreadable) {
@@ -255,7 +255,7 @@ public final class RecordingClient extends FilterClient {
             return isAny && request.versionType() == VersionType.INTERNAL;
         }
 
-        /** Ends the recording: what is open is lost first, and only then may a request pass without a line. */
+        /** Ends the recording: the open calls are recorded as lost, and only then may a request pass without a line. */
         private synchronized void end(String why) {
             if (ended != null) {
                 return;
@@ -264,7 +264,7 @@ public final class RecordingClient extends FilterClient {
             try {
                 history.close();
             } catch (UncheckedIOException fault) {
-                // (who closes the history, or has it judged, is told)
+                // (the next `close` or `assertExplained` throws it)
             }
             ended = why;
             System.err.println("casbench: the recording ends, since " + why);
@@ -278,7 +278,7 @@ public final class RecordingClient extends FilterClient {
             } catch (RuntimeException unread) {
                 end("an answer can't be read: " + unread);
             }
-            // (what has no ending by now is unknown)
+            // (a call without an ending is unknown)
             parts.forEach(Part::unknown);
         }
 
@@ -347,7 +347,7 @@ public final class RecordingClient extends FilterClient {
             }
         }
 
-        /** The number of the version that a get found; null if it may be one of a source that nobody knows. */
+        /** The number of the version that a get found; null if its source may be unknown. */
         private Long numberShown(String id, GetResponse response) {
             Updated versions = updated.get(id);
             long shown = Sources.numberOf(response.getSourceAsMap());
@@ -367,7 +367,7 @@ public final class RecordingClient extends FilterClient {
         }
     }
 
-    /** A document of which a source isn't known: which number a version has, of those that an answer told since then, by term and number. */
+    /** A document with an unknown source: the numbers of the versions in later answers, by primary term and sequence number. */
     private static final class Updated {
         private final Map<List<Long>, Long> numbers = new ConcurrentHashMap<>();
     }
@@ -392,7 +392,7 @@ public final class RecordingClient extends FilterClient {
             this.isWhole = isWhole;
         }
 
-        /** Ends the call as unknown, unless it has its ending. */
+        /** Ends the call as unknown, unless it has an ending. */
         private static void unknown(Part part) {
             if (part != null && part.call.isOpen()) {
                 part.call.unknown();
@@ -415,9 +415,9 @@ public final class RecordingClient extends FilterClient {
         }
 
         /**
-         * Whether the exception comes before any attempt, or to each attempt alike. The node that coordinates a request may send it again
-         * after a connection broke. It may reject what it has begun: an update by itself is handed on to the primary's node, which may reject a
-         * later attempt; and a bulk request is sent shard by shard, of which a later one may be rejected, and with it the whole.
+         * Whether the exception comes before any attempt, or for each attempt alike. The node that coordinates a request may send it again
+         * after a connection broke. It may reject what it has begun: a single update is passed on to the primary's node, which may reject a
+         * later attempt; and a bulk request is sent shard by shard, and is rejected as a whole if a later shard rejects it.
          */
         private boolean isRefusal(Throwable cause) {
             if (cause instanceof OpenSearchRejectedExecutionException) {
@@ -429,7 +429,7 @@ public final class RecordingClient extends FilterClient {
         }
     }
 
-    /** Requests that have no lines. */
+    /** Requests without lines. */
     private static final class Others {
         private static final List<String> WRITES = List.of(
             "indices:data/write/",
@@ -456,7 +456,7 @@ public final class RecordingClient extends FilterClient {
         }
     }
 
-    /** The numbers of sources: equal sources have one, whatever the order of their keys. */
+    /** The numbers of sources: equal sources have the same one, whatever the order of their keys. */
     private static final class Sources {
         private static final long LEAST = 2;
 
@@ -498,17 +498,17 @@ public final class RecordingClient extends FilterClient {
         }
     }
 
-    private static void tellable(boolean isSo, String why) throws Untellable {
+    private static void require(boolean isSo, String why) throws Unrecordable {
         if (!isSo) {
-            throw new Untellable(why);
+            throw new Unrecordable(why);
         }
     }
 
-    /** Why nobody can know what a request writes. */
-    private static final class Untellable extends Exception {
+    /** Thrown if it isn't known what a request writes. */
+    private static final class Unrecordable extends Exception {
         private static final long serialVersionUID = 1L;
 
-        private Untellable(String why) {
+        private Unrecordable(String why) {
             super(why);
         }
     }
