@@ -43,8 +43,8 @@ from small_drawing import changed
 from small_readings import READINGS, WEAKER, in_order, is_explained, shows_what_copies_may, text_with_voids
 from texts import condition, conflict, create, created, delete, deleted, found, get, index, lost, missing, updated
 
-from casbench_recording.continuing import Continuing, TooManyLost
 from casbench_recording.history import MOST_EVENTS, Operation, Pair
+from casbench_recording.history.continuing import Continuing, TooManyLost
 
 # The readings of a conflict that are strict otherwise.
 MAYBE = Reading(conflicts="maybe")

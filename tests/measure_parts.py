@@ -23,12 +23,12 @@ import time
 from program import built_program
 from recordings import environment
 
-from casbench_recording.continuing import Continuing
 from casbench_recording.history import History, Pair
-from casbench_recording.inspection import Shape
-from casbench_recording.judge import Judge
-from casbench_recording.routes import Names
-from casbench_recording.unjudged import Unjudged
+from casbench_recording.history.continuing import Continuing
+from casbench_recording.index_inspection import Shape
+from casbench_recording.index_names import Names
+from casbench_recording.proxy.recording.judge import Judge
+from casbench_recording.proxy.state.unjudged_list import UnjudgedList
 
 CALLS, PART, DOCUMENTS, STEPS = 2_000_000, 50_000, 1_000, 8
 NEW_DOCUMENTS = 400_000
@@ -43,7 +43,7 @@ def memory(process="self"):
 
 def judge_of_parts(out):
     """A judge that records in parts."""
-    return Judge(Shape("carts", Names(["carts"], []), 1, 1, True), "carts", Continuing(out, PART), Unjudged(out))
+    return Judge(Shape("carts", Names(["carts"], []), 1, 1, True), "carts", Continuing(out, PART), UnjudgedList(out))
 
 
 class Turns:

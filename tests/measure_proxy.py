@@ -39,7 +39,8 @@ FEW, MANY = 500, 2_500
 # A proxy that counts the bytecodes of its main thread, without those of its ticks, and writes the number to a file.
 COUNTED = """
 import os, pathlib, sys
-from casbench_recording import loop, proxy
+from casbench_recording.proxy import command
+from casbench_recording.proxy.http import loop
 
 count, loop.TICK = 0, 3600
 
@@ -50,7 +51,7 @@ def trace(frame, event, _):
     return trace
 
 sys.settrace(trace)
-status = proxy.run(sys.argv[1:])
+status = command.run(sys.argv[1:])
 sys.settrace(None)
 pathlib.Path(os.environ["COUNT"]).write_text(str(count))
 os._exit(status)

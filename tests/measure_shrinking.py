@@ -16,9 +16,9 @@ from honest import Recording
 from program import built_program
 from shrinking import Honest  # (and so the package is found)
 
+from casbench_recording.history.witness import StoreLog, witness_by_log
+from casbench_recording.history.witness_checker import Texts
 from casbench_recording.shrink import Program, Shrinker
-from casbench_recording.witness import StoreLog, witness_by_log
-from casbench_recording.witness_checker import Texts
 
 CALLS, DOCUMENTS = 524_288, 16
 

@@ -23,8 +23,8 @@ from program_test import run_tests
 from casbench_recording.http1 import BadMessage
 from casbench_recording.http1 import request_of as head_of
 from casbench_recording.stand_in.api import answer_to
-from casbench_recording.stand_in.asked import read_request
 from casbench_recording.stand_in.cluster import Cluster as StandIn
+from casbench_recording.stand_in.parsed_request import read_request
 
 CLIENTS = 8
 DOCUMENTS = 6

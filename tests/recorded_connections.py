@@ -25,18 +25,19 @@ from program import TOP
 from program_test import run_tests
 from recordings import FolderTest
 
-from casbench_recording.client_side import ClientSide
-from casbench_recording.connecting import Addresses, Connecting
-from casbench_recording.documents import digest_of, digest_of_object, digest_of_text, object_of
-from casbench_recording.history import History, counting_members
-from casbench_recording.inspection import Shape
-from casbench_recording.judge import Judge
-from casbench_recording.loop import Loop, Stream
-from casbench_recording.paths import AS_SENT
-from casbench_recording.routes import Names
-from casbench_recording.tls import TlsStream
-from casbench_recording.unjudged import Unjudged
-from casbench_recording.usual import read_reply
+from casbench_recording.history import History
+from casbench_recording.history.format import counting_members
+from casbench_recording.index_inspection import Shape
+from casbench_recording.index_names import Names
+from casbench_recording.proxy.http.client_side import ClientSide
+from casbench_recording.proxy.http.connecting import Addresses, Connecting
+from casbench_recording.proxy.http.loop import Loop, Stream
+from casbench_recording.proxy.http.tls import TlsStream
+from casbench_recording.proxy.recording.fast_replies import read_reply
+from casbench_recording.proxy.recording.judge import Judge
+from casbench_recording.proxy.routing.paths import AS_SENT
+from casbench_recording.proxy.state.documents import digest_of, digest_of_object, digest_of_text, object_of
+from casbench_recording.proxy.state.unjudged_list import UnjudgedList
 
 CERTIFICATE = str(TOP / "examples" / "record" / "loopback.pem")
 
@@ -327,17 +328,17 @@ class Pieces(FolderTest):
         super().setUp()
         self.draw = random.Random(2)
         for module in ("client_connection", "cluster_side"):
-            patch = mock.patch(f"casbench_recording.{module}.Stream", Noted)
+            patch = mock.patch(f"casbench_recording.proxy.http.{module}.Stream", Noted)
             patch.start()
             self.addCleanup(patch.stop)
 
     def sides(self, path):
         """The two sides of a proxy that writes a history, and its judge."""
         shape = Shape("carts", Names(["carts"], []), 1, 512, True)
-        judge = Judge(shape, "carts", History(path, clock=lambda: 0.0), Unjudged(path))
+        judge = Judge(shape, "carts", History(path, clock=lambda: 0.0), UnjudgedList(path))
         soon = []
         proxy = SimpleNamespace(loop=SimpleNamespace(soon=soon.append, now=0.0), judge=judge, clients=set())
-        proxy.finding, proxy.has_room, proxy.hold = None, lambda: True, lambda count: None
+        proxy.discovery, proxy.has_room, proxy.hold = None, lambda: True, lambda count: None
         proxy.connect = lambda node, made: SimpleNamespace(cancel=lambda: None)
         node = SimpleNamespace(name="", cluster=SimpleNamespace(trust=None), paths=AS_SENT, sent_host=b"")
         client = ClientSide(proxy, node, SimpleNamespace(getpeername=lambda: ("127.0.0.1", 40000)))

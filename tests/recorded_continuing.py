@@ -21,9 +21,9 @@ from program_test import run_tests
 from recordings import FolderTest, judged
 from texts import created, found, get, index, lost, missing, updated
 
-from casbench_recording.continuing import MOST_GROWING, MOST_LOST, Continuing, TooManyLost
 from casbench_recording.history import MOST_EVENTS, CallError, Ended, HistoryError, Operation, Pair
-from casbench_recording.reading import OPENSEARCH, STRICT, Conflicts, Gets, Reading, Writes
+from casbench_recording.history.continuing import MOST_GROWING, MOST_LOST, Continuing, TooManyLost
+from casbench_recording.history.readings import OPENSEARCH, STRICT, Conflicts, Gets, Reading, Writes
 
 
 def rows(text):

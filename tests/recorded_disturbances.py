@@ -27,11 +27,11 @@ from casbench_recording.history import CallError, History
 # A proxy that takes half a second to report an address.
 LATE = """
 import time
-from casbench_recording import proxy
+from casbench_recording.proxy import command
 
-tell = proxy.tell
-proxy.tell = lambda *arguments, **more: time.sleep(0.5) or tell(*arguments, **more)
-proxy.main()
+tell = command.tell
+command.tell = lambda *arguments, **more: time.sleep(0.5) or tell(*arguments, **more)
+command.main()
 """
 
 

@@ -139,7 +139,7 @@ class FirstWrites(AttackTest):
             return answer_of(201, cluster.performed(id))
 
         run = "runpy.run_module('casbench_recording.proxy', run_name='__main__', alter_sys=True)"
-        start = (sys.executable, "-c", f"import casbench_recording.finding as it, runpy; it.PATIENCE = 1.0; {run}")
+        start = (sys.executable, "-c", f"import casbench_recording.proxy.recording.index_discovery as it, runpy; it.PATIENCE = 1.0; {run}")
         with Made(answer) as cluster, self.proxy(cluster.url, start=start) as proxy, self.client(proxy) as first, self.client(proxy) as second:
             first.send(request_of("PUT", "/carts/_doc/first", b"{}"))
             cluster.wait_for(1)

@@ -22,11 +22,11 @@ from recordings import Started, environment
 from watching import WatchTest
 
 from casbench_recording import record
-from casbench_recording.cluster import Answer, ClusterError, NoAnswer
-from casbench_recording.fitting import fitting
+from casbench_recording.cluster import ClusterAnswer, ClusterError, NoAnswer
+from casbench_recording.default_reading import reading_that_fits
 from casbench_recording.history import MOST_EVENTS
-from casbench_recording.inspection import Inspector
-from casbench_recording.reading import OPENSEARCH, STRICT
+from casbench_recording.history.readings import OPENSEARCH, STRICT
+from casbench_recording.index_inspection import Inspector
 
 FITS = "the check that fits is casbench check --profile opensearch"
 
@@ -36,7 +36,7 @@ class Indexes(unittest.TestCase):
 
     def fitting(self, settings, nodes=None, served=1):
         given = [("/_cluster/health", {"number_of_nodes": nodes})] if nodes is not None else []
-        return fitting(Inspector(Answers({"settings": settings}, given)).look("carts"), served)
+        return reading_that_fits(Inspector(Answers({"settings": settings}, given)).look("carts"), served)
 
     def test_copies_and_nodes(self):
         for name, wanted, settings, *more in (
@@ -71,7 +71,7 @@ class HealthAnswer:
             return self.others.ask(method, path)
         if self.answer is None:
             raise NoAnswer("timed out")
-        return Answer(self.answer[0], json.dumps(self.answer[1]).encode())
+        return ClusterAnswer(self.answer[0], json.dumps(self.answer[1]).encode())
 
 
 class Nodes(unittest.TestCase):
@@ -80,7 +80,7 @@ class Nodes(unittest.TestCase):
     def test_what_may_not_be_known(self):
         for status in (403, 404):
             with self.subTest(status):
-                self.assertEqual(fitting(Inspector(HealthAnswer((status, {"error": "x"}))).look("carts"), 1), STRICT)
+                self.assertEqual(reading_that_fits(Inspector(HealthAnswer((status, {"error": "x"}))).look("carts"), 1), STRICT)
 
     def test_faults(self):
         """They fail the inspection: a cluster of several nodes isn't taken for one."""
@@ -137,7 +137,7 @@ class Proxies(ProxyTest, WatchTest):
                     self.assertEqual(asked[0], 200)
                     self.assertIn(f"{FITS} {self.file}/*.ndjson\n", proxy.errors.readline())
                 self.put(proxy)
-                own = wanted.words()
+                own = wanted.options()
                 self.wait_for(lambda proxy=proxy, own=own: self.watch_words(proxy)[-2 - len(own) : -2] == own if own else self.watch_words(proxy))
                 printed = proxy.ended()
                 self.assertEqual(proxy.process.returncode, 0, printed)
@@ -176,7 +176,7 @@ class Recorders(WatchTest):
                 printed, arguments = self.record(nodes, *words)
                 self.assertEqual(printed, errors.format(file=self.file))
                 if reading is not None:
-                    self.assertEqual(arguments, ["check", "--rule-out", *reading.words()])
+                    self.assertEqual(arguments, ["check", "--rule-out", *reading.options()])
                 with contextlib.suppress(FileNotFoundError):
                     os.remove(os.path.join(self.folder, "log"))
 
@@ -187,7 +187,7 @@ class Recorders(WatchTest):
             words = ["http://127.0.0.1", "carts", "OUT", "--clients", "1", "--calls", str(calls + 1), *words]
             with self.subTest(words), contextlib.redirect_stderr(io.StringIO()) as errors:
                 with contextlib.suppress(SystemExit):
-                    record.words_of(words)
+                    record.parse_arguments(words)
                 self.assertEqual(f"over {calls} calls, the most of one history" in errors.getvalue(), is_refused)
 
 

@@ -20,8 +20,9 @@ import unittest
 from program_test import run_tests
 from recordings import PACKAGE, FolderTest, environment, judged
 
-from casbench_recording.history import LONGEST_LINE, CallError, Ended, History, HistoryError, Operation, Pair
-from casbench_recording.parts import Parts
+from casbench_recording.history import CallError, Ended, History, HistoryError, Operation, Pair
+from casbench_recording.history.by_shard import Parts
+from casbench_recording.history.format import LONGEST_LINE
 
 CREATED = {"_id": "d", "result": "created", "_seq_no": 0, "_primary_term": 1}
 

@@ -20,10 +20,10 @@ from recorded_requests import JudgeTest, found, missing, written
 from recorded_through_proxy import CERTIFICATE, ProxyTest
 from recordings import judged
 
-from casbench_recording.continuing import Continuing
-from casbench_recording.documents import State
-from casbench_recording.judge import Judge
-from casbench_recording.kept import Gone
+from casbench_recording.history.continuing import Continuing
+from casbench_recording.proxy.recording.judge import Judge
+from casbench_recording.proxy.state.documents import DocumentState
+from casbench_recording.proxy.state.recent_documents import DroppedIds
 
 # How many documents come before the memory is measured first, and how many then; and by how many bytes it may have grown.
 BEFORE, THEN, MOST_GROWN = 10_000, 10_000, 3_000_000
@@ -123,7 +123,7 @@ class Kept(JudgeTest):
     def judge_in_parts(self, most_kept, calls=1000):
         self.parts = os.path.join(self.folder, "parts")
         judge = self.judge(history=Continuing(self.parts, calls))
-        return Judge(judge.shape, "carts", self.history, judge.unjudged, State.JUDGED, None, most_kept)
+        return Judge(judge.shape, "carts", self.history, judge.unjudged, DocumentState.JUDGED, None, most_kept)
 
     def recorded(self):
         """The calls of all parts, each as an operation and an id."""
@@ -138,7 +138,7 @@ class Kept(JudgeTest):
             self.talk(judge, (f"GET /carts/_doc/d{number}", None, missing(f"d{number}")))
         ids = {"ids": [f"m{number}" for number in range(50)]}
         self.talk(judge, ("GET /carts/_mget", ids, (200, {"docs": [missing(it)[1] for it in ids["ids"]]})))
-        self.assertEqual(len(judge.ledger.documents), 0)
+        self.assertEqual(len(judge.documents.recent), 0)
         self.talk(judge, ("PUT /carts/_doc/d0", {"a": 1}, written(0, id="d0")), ("GET /carts/_doc/d0", None, found(0, {"a": 1}, "d0")))
         judge.close()
         self.assertEqual(self.names(), {})
@@ -179,12 +179,12 @@ class NotJudged(unittest.TestCase):
     def test_one_without_ids(self):
         """It takes next to no memory, also when it is asked for many."""
         before = memory()
-        gone = Gone()
+        gone = DroppedIds()
         self.assertFalse(any(f"other-{number}" in gone for number in range(20_000)))
         self.assertLess(memory() - before, MOST_GROWN)
 
     def test_ids(self):
-        gone = Gone()
+        gone = DroppedIds()
         for number in range(20_000):
             gone.add(f"gone-{number}")
         self.assertTrue(all(f"gone-{number}" in gone for number in range(20_000)))

@@ -22,8 +22,9 @@ from program_test import run_tests
 from recordings import FolderTest, Started, environment, judged
 from texts import created, found, get, index, refused, refuted, updated, yes
 
-from casbench_recording.continuing import Continuing
-from casbench_recording.history import MOST_EVENTS, Operation, Pair, text_of_write
+from casbench_recording.history import MOST_EVENTS, Operation, Pair
+from casbench_recording.history.continuing import Continuing
+from casbench_recording.history.format import text_of_write
 
 
 def record(*words):

@@ -18,8 +18,8 @@ from recorded_requests import CONFLICT, LOST, JudgeTest, found, missing, short, 
 from recorded_through_proxy import Asker, ProxyTest, Scripted, as_answer
 from recordings import FolderTest, environment
 
-from casbench_recording.continuing import Continuing
-from casbench_recording.reading import OPENSEARCH, STRICT
+from casbench_recording.history.continuing import Continuing
+from casbench_recording.history.readings import OPENSEARCH, STRICT
 
 PROFILE = ("--profile", "opensearch")
 

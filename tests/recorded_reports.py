@@ -36,7 +36,7 @@ for stream in (sys.stderr, sys.stdout):
 def limited(module, events):
     """The words that start a command whose histories have so many events at most."""
     run = f"runpy.run_module('casbench_recording.{module}', run_name='__main__', alter_sys=True)"
-    return sys.executable, "-c", f"import casbench_recording.history as it, runpy; it.MOST_EVENTS = {events}; {run}"
+    return sys.executable, "-c", f"import casbench_recording.history.writing as it, runpy; it.MOST_EVENTS = {events}; {run}"
 
 
 class ReportTest(FolderTest):

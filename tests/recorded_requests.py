@@ -16,20 +16,21 @@ from unittest import mock
 from program_test import run_tests
 from recordings import FolderTest, empty_stats
 
-from casbench_recording.answering import Answering
-from casbench_recording.asking import Asking
-from casbench_recording.cluster import Answer, ClusterError
-from casbench_recording.continuing import MOST_LOST, Continuing
-from casbench_recording.documents import State
+from casbench_recording.cluster import ClusterAnswer, ClusterError
 from casbench_recording.history import History, HistoryError
-from casbench_recording.inspection import Inspector, Shape
-from casbench_recording.judge import Judge, Passed
-from casbench_recording.parts import Parts
-from casbench_recording.paths import AS_SENT
-from casbench_recording.routes import Kind, Names
-from casbench_recording.routing import hash_of, shard_of
+from casbench_recording.history.by_shard import Parts
+from casbench_recording.history.continuing import MOST_LOST, Continuing
+from casbench_recording.index_inspection import Inspector, Shape
+from casbench_recording.index_names import Names
+from casbench_recording.proxy.recording.answer_recorder import AnswerRecorder
+from casbench_recording.proxy.recording.judge import Judge, Passed
+from casbench_recording.proxy.recording.request_recorder import RequestRecorder
+from casbench_recording.proxy.routing.paths import AS_SENT
+from casbench_recording.proxy.routing.routes import RouteKind
+from casbench_recording.proxy.state.documents import DocumentState
+from casbench_recording.proxy.state.unjudged_list import UnjudgedList
+from casbench_recording.shard_routing import hash_of, shard_of
 from casbench_recording.stand_in.indexes import Index
-from casbench_recording.unjudged import Unjudged
 
 MADE = "AAAAAAAAAAAAAAAAAAA"  # (with one letter more it is an id as a cluster makes one)
 
@@ -59,14 +60,14 @@ LOST = None
 class JudgeTest(FolderTest):
     """A test of a judge."""
 
-    def judge(self, shape="empty", first=State.JUDGED, only=None, shards=1, history=None, **names):
+    def judge(self, shape="empty", first=DocumentState.JUDGED, only=None, shards=1, history=None, **names):
         """A judge that writes the history of the test."""
         if shape is not None:
             names = Names(names.get("names", ["carts", "shop"]), names.get("routed", []))
             shape = Shape("carts", names, shards, shards * 512, True)
         self.history, self.numbers = history or History(self.file), Numbers()
         self.addCleanup(self.history.end)
-        unjudged = Unjudged(self.file)
+        unjudged = UnjudgedList(self.file)
         self.addCleanup(unjudged.close)
         return Judge(shape, "carts", self.history, unjudged, first, only)
 
@@ -399,7 +400,7 @@ class Calls(JudgeTest):
     def test_other_indexes_are_passed_by(self):
         judge = self.judge()
         for target in ("/other/_doc/d", "/cartsy/_doc/d", "/other/_doc", "/other/_update/d", "/other/_delete_by_query", "/other"):
-            self.assertIs(judge.route("POST", target.encode()).kind, Kind.PASS)
+            self.assertIs(judge.route("POST", target.encode()).kind, RouteKind.PASS)
 
 
 class UnknownSources(JudgeTest):
@@ -540,7 +541,7 @@ class Several(JudgeTest):
             self.assertIsNone(judge.ask(judge.route("POST", b"/carts/_bulk"), "POST", body))
             self.assertIn("bulk request", self.names()["ended"])
             self.answer(judge, get, missing())
-            self.assertIs(judge.route("GET", b"/carts/_doc/d").kind, Kind.PASS)
+            self.assertIs(judge.route("GET", b"/carts/_doc/d").kind, RouteKind.PASS)
             self.assertEqual(self.ended(judge), ["0 get d", "0 lost"])
             self.tidy()
 
@@ -675,7 +676,7 @@ class NotJudged(JudgeTest):
             self.tidy()
 
     def test_a_fault_of_the_recorder_ends_the_recording(self):
-        for at, (where, name) in enumerate(((Asking, "set_operation"), (Answering, "_reply"))):
+        for at, (where, name) in enumerate(((RequestRecorder, "set_operation"), (AnswerRecorder, "_reply"))):
             judge = self.judge()
             get = self.ask(judge, "GET", "/carts/_doc/d")
             with mock.patch.object(where, name, side_effect=KeyError("x")):
@@ -698,14 +699,14 @@ class NotJudged(JudgeTest):
 
     def test_a_list_that_is_there_is_not_gone_on_with(self):
         open(self.file + ".not-judged", "x").close()
-        self.assertRaisesRegex(HistoryError, "not-judged: File exists", Unjudged, self.file)
+        self.assertRaisesRegex(HistoryError, "not-judged: File exists", UnjudgedList, self.file)
 
     def test_gets_of_several_documents_for_which_there_is_no_room_keep_nothing(self):
         judge = self.judge(history=History(self.file, most_events=6))
         self.ask(judge, "GET", "/carts/_doc/d")
         for at in range(20):
             self.assertIsNone(self.ask(judge, "POST", "/carts/_mget", {"ids": [f"{at}-{it}" for it in range(3)]}))
-        self.assertEqual(list(judge.ledger.documents), ["d"])
+        self.assertEqual(list(judge.documents.recent), ["d"])
         self.assertEqual(len(self.ask(judge, "POST", "/carts/_mget", {"ids": ["d", "e"]}).parts), 2)
         self.assertFalse(judge.has_ended)
 
@@ -792,7 +793,7 @@ class NotEmpty(JudgeTest):
         settled = [("PUT /carts/_doc/d", {}, written(5)), ("PUT /carts/_create/d", {}, written(5)), ("GET /carts/_doc/d", None, missing())]
         settled += [("DELETE /carts/_doc/d", None, written(5, "not_found"))]
         for turn in settled:
-            judge = self.judge(first=State.UNSURE)
+            judge = self.judge(first=DocumentState.UNSURE)
             self.talk(judge, turn, ("PUT /carts/_doc/d", {"a": 1}, written(6, "updated")))
             self.assertEqual(len([it for it in self.ended(judge) if "lost" in it]), 0)
             self.assertEqual(self.names(), {})
@@ -802,14 +803,14 @@ class NotEmpty(JudgeTest):
         shown = [("PUT /carts/_doc/d", {}, written(5, "updated")), ("PUT /carts/_create/d", {}, CONFLICT), ("GET /carts/_doc/d", None, found(3, {}))]
         shown += [("DELETE /carts/_doc/d", None, written(5, "deleted"))]
         for turn in shown:
-            judge = self.judge(first=State.UNSURE)
+            judge = self.judge(first=DocumentState.UNSURE)
             self.talk(judge, turn, ("GET /carts/_doc/d", None, found(6, {})))
             self.assertEqual(self.ended(judge)[1:], ["0 lost"])
             self.assertEqual(self.names(), {"d": "it was there before"})
             self.tidy()
 
     def test_two_that_race_to_create(self):
-        judge = self.judge(first=State.UNSURE)
+        judge = self.judge(first=DocumentState.UNSURE)
         first, second = (self.ask(judge, "PUT", "/carts/_create/d", {"a": it}) for it in (1, 2))
         self.answer(judge, first, CONFLICT)
         self.answer(judge, second, written(5))
@@ -818,7 +819,7 @@ class NotEmpty(JudgeTest):
         self.assertEqual(self.check(), "yes docs=1 calls=3 left_out=1")
 
     def test_a_delete_settles_nothing_for_others(self):
-        judge = self.judge(first=State.UNSURE)
+        judge = self.judge(first=DocumentState.UNSURE)
         delete = self.ask(judge, "DELETE", "/carts/_doc/d")
         self.talk(judge, ("GET /carts/_doc/d", None, missing()))
         self.answer(judge, delete, (503, {}))
@@ -874,7 +875,7 @@ class Answers:
         }
         if name == "/carts/_search_shards" and name not in given:
             given[name] = {"shards": [[{"shard": index.shard_number(path.partition("routing=")[2])}]]}
-        return Answer(200, json.dumps(given[name]).encode()) if name in given else Answer(404, b"{}")
+        return ClusterAnswer(200, json.dumps(given[name]).encode()) if name in given else ClusterAnswer(404, b"{}")
 
 
 class Inspections(JudgeTest):

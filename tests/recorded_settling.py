@@ -18,8 +18,8 @@ from program_test import run_tests
 from recorded_requests import JudgeTest, found, missing, written
 from recorded_through_proxy import Asker, ProxyTest, Scripted, as_answer
 
-from casbench_recording import watch
-from casbench_recording.documents import State
+from casbench_recording.proxy.state.documents import DocumentState
+from casbench_recording.watch import command as watch
 
 BEGINS = "casbench_recording.proxy: the recording begins\n"
 
@@ -173,7 +173,7 @@ class Judged(JudgeTest):
 
     def test_a_write_without_an_id(self):
         """If it is answered after the recording began it is one from before."""
-        judge = self.judge(first=State.UNSURE)
+        judge = self.judge(first=DocumentState.UNSURE)
         judge.settle()
         early = self.ask(judge, "POST", "/carts/_doc", {})
         self.talk(judge, ("POST /carts/_doc", {}, written(0, id="A" * 20)))
@@ -185,8 +185,8 @@ class Judged(JudgeTest):
 
     def test_a_list_that_is_full(self):
         """The recording goes on, and the documents that are not listed are counted."""
-        with mock.patch("casbench_recording.unjudged.MOST_LISTED", 1000):
-            judge = self.judge(first=State.UNSURE)
+        with mock.patch("casbench_recording.proxy.state.unjudged_list.MOST_LISTED", 1000):
+            judge = self.judge(first=DocumentState.UNSURE)
             for number in range(100):
                 self.talk(judge, (f"GET /carts/_doc/d{number}", None, found(3, {}, f"d{number}")))
             self.talk(judge, ("PUT /carts/_doc/new", {}, written(9, id="new")))

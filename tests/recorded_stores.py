@@ -29,7 +29,7 @@ from recordings import environment, judged
 from running import asked, ended, run, started
 from texts import OFFENCE
 
-from casbench_recording.witness import checked
+from casbench_recording.history.witness import checked
 
 STORES = TOP / "examples" / "stores"
 sys.path.insert(0, str(STORES))

@@ -27,12 +27,14 @@ from small_readings import READINGS
 from texts import created, delete, found, get, index, lost, updated
 from watching import SECONDS, WatchTest, heeds_signals
 
-from casbench_recording import proxy, record, watch
+from casbench_recording import record
 from casbench_recording.history import MOST_EVENTS, Pair
-from casbench_recording.reading import reading_of
-from casbench_recording.snapshots import Snapshot
-from casbench_recording.terms import TermReader, Terms
-from casbench_recording.watcher import watch_options
+from casbench_recording.history.readings import reading_of
+from casbench_recording.proxy import command as proxy
+from casbench_recording.watch import command as watch
+from casbench_recording.watch.process import watch_options
+from casbench_recording.watch.snapshots import Snapshot
+from casbench_recording.watch.terms import TermReader, Terms
 
 # A history that is right, what makes it stale, and what no history is.
 RIGHT = index(0) + created(0, 1, 0) + index(1, k=2) + updated(1, 1, 1)
@@ -411,15 +413,15 @@ class Readings(unittest.TestCase):
     """The options of a reading, as recorders take them and hand them on to the watch."""
 
     RECORDERS = {
-        "record": lambda words: record.words_of(["http://127.0.0.1", "carts", "OUT", *words]),
-        "proxy": lambda words: proxy.words_of(["--cluster", "http://127.0.0.1", "--index", "carts", "OUT", *words]),
+        "record": lambda words: record.parse_arguments(["http://127.0.0.1", "carts", "OUT", *words]),
+        "proxy": lambda words: proxy.parse_arguments(["--cluster", "http://127.0.0.1", "--index", "carts", "OUT", *words]),
     }
 
     def test_readings_that_are_handed_on(self):
         for (recorder, read), (name, reading) in itertools.product(self.RECORDERS.items(), READINGS.items()):
             with self.subTest(f"{recorder}, {name}"):
                 setting = read(["--watch", *reading.options()])
-                watched = watch.setting_of(["OUT", *watch_options(setting)])
+                watched = watch.parse_arguments(["OUT", *watch_options(setting)])
                 self.assertEqual((setting.reading, reading_of(watched)), (own_reading(reading),) * 2)
 
     def test_profiles(self):
@@ -437,7 +439,7 @@ class Readings(unittest.TestCase):
 
     def test_bad_options(self):
         """An option that comes twice and a value that it doesn't have are refused, with the usage and status 2."""
-        readers = {**self.RECORDERS, "watch": lambda words: watch.setting_of(["OUT", *words])}
+        readers = {**self.RECORDERS, "watch": lambda words: watch.parse_arguments(["OUT", *words])}
         for (name, read), words in itertools.product(readers.items(), (["--gets", "any"] * 2, ["--profile", "none"], ["--failed", ""])):
             with self.subTest(f"{name} {words}"), contextlib.redirect_stderr(io.StringIO()) as told:
                 with self.assertRaises(SystemExit) as ended:

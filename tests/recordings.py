@@ -26,7 +26,7 @@ SECONDS = 60
 PACKAGE = TOP / "recording"
 sys.path.insert(0, str(PACKAGE))
 
-from casbench_recording.reading import CHOICES, Reading, add_reading_options, reading_of
+from casbench_recording.history.readings import CHOICES, Reading, add_reading_options, reading_of
 
 
 def own_reading(reading):

@@ -30,8 +30,8 @@ from small_readings import READINGS
 from texts import OFFENCE, created, get, index, missing
 
 from casbench_recording.history import Pair
+from casbench_recording.history.witness import StoreLog, witness_by_log
 from casbench_recording.shrink import Program, Shrinker
-from casbench_recording.witness import StoreLog, witness_by_log
 
 # The readings of a conflict that are strict otherwise.
 CONFLICTS = (STRICT, Reading(conflicts="maybe"))

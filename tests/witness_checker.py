@@ -29,8 +29,8 @@ from running import bytes_of, run_on_files, said
 from small_readings import READINGS, small_history
 from texts import condition, conflict, created, delete, found, get, index, lost, missing, places_of, updated, witness_of
 
-from casbench_recording.reading import OPENSEARCH, STRICT, Conflicts, Failed, Reading
-from casbench_recording.witness import checked
+from casbench_recording.history.readings import OPENSEARCH, STRICT, Conflicts, Failed, Reading
+from casbench_recording.history.witness import checked
 
 # How many witnesses are drawn of larger histories, and how many of them are verified and broken at least.
 WITNESSES, LEAST_VERIFIED, LEAST_BROKEN = 2_000, 700, 700
@@ -54,7 +54,7 @@ CONFLICTS = (STRICT, MAYBE)
 
 def asked(program, command, *texts, reading):
     """The status and the answer of a command on files with these texts, in a reading."""
-    return said(run_on_files(program, command, texts, reading.words()))
+    return said(run_on_files(program, command, texts, reading.options()))
 
 
 def compared(program, history, witness, reading):
@@ -441,7 +441,7 @@ class Explaining(ProgramTest):
 
     def test_length_of_checker(self):
         """The checker has few lines, and imports nothing of the package."""
-        text = (TOP / "recording" / "casbench_recording" / "witness_checker.py").read_text(encoding="utf-8")
+        text = (TOP / "recording" / "casbench_recording" / "history" / "witness_checker.py").read_text(encoding="utf-8")
         imported = [it.split()[1] for it in text.splitlines() if it.startswith(("import ", "from "))]
         self.assertLessEqual(sum(1 for it in text.splitlines() if it.strip()), MOST_LINES)
         self.assertEqual(imported, ["json", "bisect", "contextlib", "dataclasses", "itertools", "typing"])

@@ -17,9 +17,9 @@ from typing import Callable, List, Mapping, Optional, Sequence
 from nodes import Nodes, are_installed
 
 from casbench_recording.history import History, Pair
+from casbench_recording.history.witness_checker import Texts
 from casbench_recording.load import MIXTURE, Client, Habits, Load, Store
 from casbench_recording.witness import StoreLog, witness_by_log
-from casbench_recording.witness_checker import Texts
 
 PRINTED = re.compile(r"recorded (\d+) calls in \S+, (\d+) of them without a reply, of which (\d+) took effect\n")
 """What the command prints: how many calls there are, how many were lost, and how many of these took effect by the store's log."""

@@ -12,7 +12,8 @@ import time
 import urllib.parse
 from typing import Any, Callable, Dict, Iterable, Iterator, Mapping, NamedTuple, Optional, Union
 
-from .history import LONGEST_CLIENT, NoOutcome, text_of, value_of
+from .history.format import LONGEST_CLIENT, text_of, value_of
+from .history.writing import NoOutcome
 
 Url = urllib.parse.SplitResult
 
@@ -34,7 +35,7 @@ class NoAnswer(NoOutcome):
     """A request was sent, or part of it, and no whole answer came: whether it was performed is not known."""
 
 
-class Answer(NamedTuple):
+class ClusterAnswer(NamedTuple):
     """What came back for one request: the HTTP status and the bytes of the body, all of them."""
 
     status: int
@@ -53,7 +54,7 @@ class Answer(NamedTuple):
         return value if isinstance(value, dict) else {}
 
 
-class Cluster(NamedTuple):
+class ClusterAccess(NamedTuple):
     """Where the cluster is, how long to wait for a word of it, who asks, and whom to trust."""
 
     url: Url
@@ -65,7 +66,7 @@ class Cluster(NamedTuple):
 class Connection:
     """A connection to the cluster. It sends each request once."""
 
-    def __init__(self, cluster: Cluster) -> None:
+    def __init__(self, cluster: ClusterAccess) -> None:
         url, timeout = cluster.url, cluster.timeout
         self.prefix = url.path.rstrip("/")
         self.headers = {"Content-Type": "application/json", **cluster.credentials}
@@ -101,7 +102,7 @@ class Connection:
         """Whether there is a connection. A cluster may close it behind an answer."""
         return self.http.sock is not None
 
-    def ask(self, method: str, path: str, body: Optional[str] = None) -> Answer:
+    def ask(self, method: str, path: str, body: Optional[str] = None) -> ClusterAnswer:
         """Sends one request and returns its whole answer. Raises NoAnswer where none came in time."""
         self.send(method, path, body)
         return self.receive()
@@ -115,11 +116,11 @@ class Connection:
         with self._closed_by_a_fault():
             self.http.request(method, self.prefix + path, body, self.headers)
 
-    def receive(self) -> Answer:
+    def receive(self) -> ClusterAnswer:
         """The whole answer to what was sent. Raises NoAnswer where none came in time."""
         with self._closed_by_a_fault():
             response = self.http.getresponse()
-            return Answer(response.status, body_of(response))
+            return ClusterAnswer(response.status, body_of(response))
 
     @contextlib.contextmanager
     def _closed_by_a_fault(self) -> Iterator[None]:
@@ -165,7 +166,7 @@ def body_of(response: http.client.HTTPResponse) -> bytes:
 def connection_to(url: str, timeout: float = 10.0) -> Connection:
     """A connection to this address, for a harness: it waits so many seconds for each word of an answer, and tells nobody who asks."""
     address = url_of(url)
-    return Connection(Cluster(address, timeout, {}, trust_of(address)))
+    return Connection(ClusterAccess(address, timeout, {}, trust_of(address)))
 
 
 def port_of(url: Url) -> int:

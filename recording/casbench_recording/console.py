@@ -8,7 +8,7 @@ import os
 import select
 import sys
 import time
-from typing import Sequence
+from typing import Optional, Sequence
 
 ENDED_EARLY = 3
 """The exit status of a recording that ended before its time."""
@@ -21,6 +21,11 @@ CLEARED = "\r\x1b[K"
 
 PATIENCE = 0.3
 """For how many seconds the last lines wait until they are taken."""
+
+
+def usage_name(package: str) -> Optional[str]:
+    """The name of a command in its usage: that of its package if it is run as a module, else the one that it was called by."""
+    return f"{package}.py" if os.path.basename(sys.argv[0]) == "__main__.py" else None
 
 
 def counted(count: int, what: str) -> str:

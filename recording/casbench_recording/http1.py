@@ -20,7 +20,7 @@ MOST_REMEMBERED = 2048
 LONGEST_REMEMBERED = 1024
 """The most bytes of such a head."""
 
-LONGEST_WHO = 80
+LONGEST_OPAQUE_ID = 80
 """The most bytes of an X-Opaque-Id that are kept."""
 
 LONGEST_CHUNK_LINE = 16_384
@@ -138,10 +138,10 @@ class ChunkedBody(Body):
         line, self.line = self.line, b""
         if not line.endswith(b"\r\n"):
             raise BadMessage("a line between chunks has a bare line feed")
-        self.heed(line[:-2])
+        self.handle_line(line[:-2])
         return end + 1
 
-    def heed(self, line: bytes) -> None:
+    def handle_line(self, line: bytes) -> None:
         """Heeds a line: what ends a chunk, the length of the next one, or a field behind the last one."""
         if self.is_behind_last:
             self.trailers += len(line)
@@ -169,7 +169,7 @@ class Fields(NamedTuple):
     encoding: bytes
     expects: bool
     # who says to ask, cut to what a history takes
-    who: str = ""
+    opaque_id: str = ""
     # whether it offers another protocol
     offers_upgrade: bool = False
 
@@ -222,7 +222,7 @@ def fields_of(head: bytes, is_old: bool) -> Fields:
         raise BadMessage("a line of the head is no field")
     length: Optional[int] = None
     is_chunked = expects = offers_upgrade = False
-    encoding, who = b"", ""
+    encoding, opaque_id = b"", ""
     for name, text in FIELD.findall(head):
         name, value = name.lower(), text.strip(b" \t").lower()
         if name == b"content-length":
@@ -236,14 +236,14 @@ def fields_of(head: bytes, is_old: bool) -> Fields:
         elif name == b"content-encoding":
             encoding = encoding + b"," + value if encoding else value
         elif name == b"x-opaque-id":
-            who = text.strip(b" \t")[:LONGEST_WHO].decode("utf-8", "replace")
+            opaque_id = text.strip(b" \t")[:LONGEST_OPAQUE_ID].decode("utf-8", "replace")
         elif name == b"expect":
             expects = value == b"100-continue"
         else:
             offers_upgrade = True
     if is_chunked and length is not None:
         raise BadMessage("the end of the body is told twice")
-    return Fields(length, is_chunked, encoding, expects, who, offers_upgrade)
+    return Fields(length, is_chunked, encoding, expects, opaque_id, offers_upgrade)
 
 
 remembered_fields = functools.lru_cache(maxsize=MOST_REMEMBERED)(fields_of)

@@ -8,7 +8,7 @@ from typing import IO, Callable, Optional, Tuple
 
 from .console import CLEARED, counted, escaped, tell
 
-Counts = Callable[[], Tuple[int, int]]
+CountCalls = Callable[[], Tuple[int, int]]
 """Returns how many calls were recorded so far, and how many of them are lost."""
 
 
@@ -23,7 +23,7 @@ class Progress:
     """
 
     def __init__(
-        self, counts: Counts, stream: Optional[IO[str]] = None, seconds: float = 1.0, remark: Callable[[], str] = lambda: ""
+        self, counts: CountCalls, stream: Optional[IO[str]] = None, seconds: float = 1.0, remark: Callable[[], str] = lambda: ""
     ) -> None:
         self._counts = counts
         self._remark = remark

@@ -21,24 +21,35 @@ import signal
 import sys
 import time
 import urllib.parse
-from dataclasses import dataclass
-from typing import Any, Callable, Dict, List, NamedTuple, Optional, Sequence, Tuple
+from typing import Any, Dict, List, NamedTuple, Optional, Sequence
 
-from .cluster import START_PATIENCE, Answer, Cluster, ClusterError, Connection, NoAnswer, Url, add_certificate_options, certificates_of
-from .cluster import credentials_of, name_of, number_from, trust_of, url_of
+from .cluster import (
+    START_PATIENCE,
+    ClusterAccess,
+    ClusterError,
+    Connection,
+    NoAnswer,
+    Url,
+    add_certificate_options,
+    certificates_of,
+    credentials_of,
+    number_from,
+    trust_of,
+    url_of,
+)
 from .console import ENDED_EARLY, counted
-from .continuing import Continuing, add_part_options
+from .default_reading import DefaultReading
 from .disturb import Disturber, read_plan
-from .fitting import Fitting
-from .history import Body, Call, CallWriter, History, HistoryError, Operation, Pair, pair_of
-from .inspection import Inspector
-from .load import ANY_NUMBER, MIXTURE, WRITES, Habits, Load
+from .history.continuing import Continuing, add_part_options
+from .history.readings import OPENSEARCH, Reading, add_reading_options, is_named, reading_of
+from .history.writing import CallWriter, History, HistoryError
+from .index_inspection import Inspector
+from .load.clients import ANY_NUMBER, MIXTURE, WRITES, Habits, Load
+from .load.cluster_store import ClusterStore
 from .progress import Progress
-from .reading import OPENSEARCH, Reading, add_reading_options, is_named, reading_of
-from .routes import PRIMARY
-from .snapshots import CheckError
-from .unperformed import is_unperformed
-from .watcher import CAN_NOT_CHECK, Watcher, add_watch_options, try_watch, watch_options
+from .shard_routing import PRIMARY
+from .watch.process import CAN_NOT_CHECK, WatchProcess, add_watch_options, try_watch, watch_options
+from .watch.snapshots import CheckError
 
 TURNS = ",".join(f"{kind}={weight}" for kind, weight in {**MIXTURE, "bulk": 1}.items())
 """How often each kind of turn is drawn, where the words don't say."""
@@ -49,7 +60,7 @@ OF_THE_PRIMARY = "primary"
 """The value of --gets by which gets are sent to the primary."""
 
 
-class Stop:
+class LoadStop:
     """What has all clients make no more calls: somebody asked for it, the watch found a fault, or the time is over."""
 
     def __init__(self) -> None:
@@ -77,140 +88,14 @@ class Stop:
         return self.is_set or time.monotonic() >= self.last
 
 
-# What is sent
-
-
-def condition_of(operation: Operation) -> Dict[str, int]:
-    """The condition of a call, as it is spelled in a request, or nothing."""
-    pair = operation.condition
-    return {"if_seq_no": pair.seq, "if_primary_term": pair.term} if pair is not None else {}
-
-
-def request_of(index: str, operation: Operation, asks_primary: bool = False) -> Tuple[str, str, Optional[str]]:
-    """The method, path and body of the request of one call; a get may be one that the primary answers."""
-    method = {"get": "GET", "index": "PUT", "create": "PUT", "delete": "DELETE"}[operation.op]
-    room = "_create" if operation.op == "create" else "_doc"
-    words = {"preference": PRIMARY} if asks_primary and operation.op == "get" else condition_of(operation)
-    query = urllib.parse.urlencode(words)
-    path = f"/{index}/{room}/{urllib.parse.quote(operation.id, safe='')}" + ("?" + query if query else "")
-    return method, path, source_of(operation)
-
-
-def source_of(operation: Operation) -> Optional[str]:
-    """The source that a call writes, if any."""
-    return None if operation.value is None else json.dumps({"k": operation.value})
-
-
-def bulk_of(index: str, operations: Sequence[Operation]) -> Tuple[str, str, str]:
-    """The method, path and body of a bulk request of several calls."""
-    lines = []
-    for operation in operations:
-        lines.append(json.dumps({operation.op: {"_id": operation.id, **condition_of(operation)}}))
-        lines.extend(filter(None, [source_of(operation)]))
-    return "POST", f"/{index}/_bulk", "\n".join(lines) + "\n"
-
-
-def items_of(operations: Sequence[Operation], answer: Answer) -> List[Optional[Dict[str, Any]]]:
-    """What a bulk request's answer says of each call, or None for each where it can't be determined."""
-    items = answer.members.get("items") if answer.status == 200 else None
-    if not isinstance(items, list) or len(items) != len(operations):
-        return [None] * len(operations)
-    return [told_by(item, operation.op) for item, operation in zip(items, operations)]
-
-
-def told_by(item: Any, action: str) -> Optional[Dict[str, Any]]:
-    """What an item of a bulk request's answer says of its action, or None where it can't be determined."""
-    told = item.get(action) if isinstance(item, dict) else None
-    status = told.get("status") if isinstance(told, dict) else None
-    return told if type(status) is int and 0 <= status <= 65_535 else None
-
-
-# The cluster as a store
-
-
-@dataclass(frozen=True)
-class Reply:
-    """A reply as it came, and the members of its body."""
-
-    status: int
-    body: Body
-    members: Dict[str, Any]
-    seen: Optional[Pair] = None
-
-    @property
-    def there(self) -> Optional[Pair]:
-        """The pair of the document as this leaves it, if it is there."""
-        return None if self.members.get("result") in ("deleted", "not_found") else pair_of(self.members)
-
-    def write(self, call: Call) -> None:
-        """Writes the reply to a call, or that it was not performed, if the reply proves that of a write."""
-        if call.operation.op != "get" and is_unperformed(self.status, self.members):
-            call.void()
-        else:
-            call.reply(self.status, self.body)
-
-
-class ClusterSession:
-    """A connection of a client to a node."""
-
-    def __init__(self, connection: Connection, index: str, asks_primary: bool) -> None:
-        self.connection, self.index, self.asks_primary = connection, index, asks_primary
-
-    @property
-    def is_open(self) -> bool:
-        """Whether it can be asked."""
-        return self.connection.is_open
-
-    def send(self, call: Call) -> None:
-        """Sends the request of a call."""
-        self.connection.send(*request_of(self.index, call.operation, self.asks_primary))
-
-    def outcome(self, call: Call) -> Reply:
-        """The reply to it."""
-        answer = self.connection.receive()
-        return Reply(answer.status, answer.body, answer.members)
-
-    def send_all(self, calls: Sequence[Call]) -> None:
-        """Sends a bulk request of several calls."""
-        self.connection.send(*bulk_of(self.index, [it.operation for it in calls]))
-
-    def outcomes(self, calls: Sequence[Call]) -> List[Optional[Reply]]:
-        """What the answer to it says of each call."""
-        answer = self.connection.receive()
-        if is_unperformed(answer.status, answer.members, is_handed_on=len(calls) > 1):
-            return [Reply(answer.status, answer.body, answer.members)] * len(calls)
-        items = items_of([it.operation for it in calls], answer)
-        return [None if it is None else Reply(it["status"], it, it) for it in items]
-
-    def close(self) -> None:
-        """Closes the connection."""
-        self.connection.close()
-
-
-class ClusterStore:
-    """The nodes of a cluster. Who connects waits for it as long as patience says, and no longer than the load lasts."""
-
-    def __init__(self, setting: argparse.Namespace, is_over: Callable[[], bool]) -> None:
-        self.setting, self.is_over = setting, is_over
-        self.nodes = len(setting.clusters)
-        # (one alone isn't named)
-        self.names = [name_of(it.url) for it in setting.clusters] if self.nodes > 1 else [""]
-
-    def connect(self, node: int) -> ClusterSession:
-        """A connection to a node. Raises ClusterError, which ends the recording."""
-        connection = Connection(self.setting.clusters[node])
-        connection.open(self.setting.patience, self.is_over)
-        return ClusterSession(connection, self.setting.index, self.setting.asks_primary)
-
-
 # The recording
 
 
-class Recorded(NamedTuple):
+class FinishedRecording(NamedTuple):
     """A recording that is over, why the clients made no more calls, and the exit status of its watch."""
 
     recording: CallWriter
-    stop: Stop
+    stop: LoadStop
     watched: int
 
 
@@ -256,15 +141,15 @@ def why_no_index(index: str, status: int, told: Dict[str, Any]) -> str:
     return f"the index {index} was not made (HTTP {status}): {json.dumps(kind)} {json.dumps(reason)}"
 
 
-def record(setting: argparse.Namespace) -> Recorded:
+def record(setting: argparse.Namespace) -> FinishedRecording:
     """Makes the index and records the clients' calls."""
-    stop = Stop()
+    stop = LoadStop()
     if setting.watch:
         try_watch(setting)
     recording = recording_of(setting)
     with contextlib.ExitStack() as stack:
         stack.callback(recording.end)
-        watcher = stack.enter_context(Watcher(setting.file, watch_options(setting), stop.halt, tell_fault)) if setting.watch else None
+        watcher = stack.enter_context(WatchProcess(setting.file, watch_options(setting), stop.halt, tell_fault)) if setting.watch else None
         # (before the watch ends, so that its last check has the last line)
         stack.enter_context(recording)
         stack.enter_context(Progress(lambda: (recording.calls, recording.lost)))
@@ -287,7 +172,7 @@ def record(setting: argparse.Namespace) -> Recorded:
         stop.has_failed = disturber.has_failed
         is_early = setting.seconds is not None and not stop.is_over()
         stop.is_full = is_early and isinstance(recording, History) and not recording.room
-    return Recorded(recording, stop, watcher.status if watcher is not None else 0)
+    return FinishedRecording(recording, stop, watcher.status if watcher is not None else 0)
 
 
 def is_fitted(setting: argparse.Namespace) -> bool:
@@ -295,7 +180,7 @@ def is_fitted(setting: argparse.Namespace) -> bool:
     return (setting.watch or setting.part is not None) and not is_named(setting)
 
 
-def fit(setting: argparse.Namespace, recording: CallWriter, watcher: Optional[Watcher]) -> None:
+def fit(setting: argparse.Namespace, recording: CallWriter, watcher: Optional[WatchProcess]) -> None:
     """Has the recording and its watch take the reading that fits the index; if it can't be looked at, the one that accuses less."""
 
     def judge_in(reading: Reading) -> None:
@@ -303,21 +188,21 @@ def fit(setting: argparse.Namespace, recording: CallWriter, watcher: Optional[Wa
         if watcher is not None:
             watcher.change(watch_options(setting))
 
-    fitting = Fitting(setting.file, recording, len(setting.clusters), is_named(setting))
-    fitting.heed_reading = judge_in
+    default_reading = DefaultReading(setting.file, recording, len(setting.clusters), is_named(setting))
+    default_reading.on_reading = judge_in
     with contextlib.closing(Connection(setting.clusters[0])) as connection:
         try:
             shape = Inspector(connection).inspect(urllib.parse.unquote(setting.index))
         except ClusterError as fault:
-            fitting.take_unknown(str(fault), tell_fault)
+            default_reading.take_unknown(str(fault), tell_fault)
             return
     if shape is not None:
-        fitting.take(shape, tell_fault)
+        default_reading.take(shape, tell_fault)
     else:
-        fitting.take_unknown("it isn't there", tell_fault)
+        default_reading.take_unknown("it isn't there", tell_fault)
 
 
-def load_of(setting: argparse.Namespace, recording: CallWriter, stop: Stop) -> Load:
+def load_of(setting: argparse.Namespace, recording: CallWriter, stop: LoadStop) -> Load:
     """The clients. With several addresses one after the other takes the next of them, and stays there."""
     load = Load(recording, setting.seed, stop.is_over)
     store = ClusterStore(setting, load.is_over)
@@ -338,7 +223,7 @@ def tell_fault(text: str) -> None:
     print(f"record.py: {text}", file=sys.stderr)
 
 
-# The words
+# The command line
 
 
 def mixture_of(text: str) -> Dict[str, int]:
@@ -360,7 +245,7 @@ def urls_of(text: str) -> List[Url]:
     return [url_of(it) for it in text.split(",")]
 
 
-def words_of(arguments: Optional[Sequence[str]]) -> argparse.Namespace:
+def parse_arguments(arguments: Optional[Sequence[str]]) -> argparse.Namespace:
     """Reads the arguments of the command; without any, those of the process."""
     parser = argparse.ArgumentParser(description="Records clients of an OpenSearch cluster as a history for casbench.")
     add = parser.add_argument
@@ -401,10 +286,10 @@ def words_of(arguments: Optional[Sequence[str]]) -> argparse.Namespace:
 def main(arguments: Optional[Sequence[str]] = None) -> int:
     """Records by the words given, and returns the exit status: 0 recorded, 1 a named error, 3 the recording ended early, 4 it can't
     be checked, 130 interrupted."""
-    setting = words_of(arguments)
+    setting = parse_arguments(arguments)
     try:
         credentials = credentials_of(os.environ)
-        setting.clusters = [Cluster(it, setting.timeout, credentials, trust_of(it, setting.certificates)) for it in setting.urls]
+        setting.clusters = [ClusterAccess(it, setting.timeout, credentials, trust_of(it, setting.certificates)) for it in setting.urls]
         recorded = record(setting)
     except (ClusterError, HistoryError, OSError) as fault:
         tell_fault(str(fault))

@@ -17,8 +17,8 @@ import subprocess
 import sys
 from typing import BinaryIO, Dict, Iterable, List, NamedTuple, Optional, Sequence, Set, Tuple
 
-from .reading import STRICT, Reading, add_reading_options, is_ruling_out, reading_of
-from .recorded import Beginnings, Call, Recorded, Version
+from .history.parsing import Beginnings, ParsedCall, ParsedHistory, VersionKey
+from .history.readings import STRICT, Reading, add_reading_options, is_ruling_out, reading_of
 
 FIRST_WINDOW, WINDOW_FACTOR = 64, 4
 """How many calls the first window before the answer has, and how many times as many the next one."""
@@ -28,7 +28,7 @@ class ShrinkError(Exception):
     """Why a history can't be cut down, for the operator."""
 
 
-class Answer(NamedTuple):
+class WantedAnswer(NamedTuple):
     """What has to stay: the word, the kind of evidence, and the calls that are named. A `no` names one, and may be proved or not: it is if
     of each write of the document the outcome is known."""
 
@@ -44,24 +44,24 @@ class Program:
     def __init__(self, path: str, reading: Reading = STRICT, is_ruling_out: bool = False) -> None:
         self.path = path
         self.reading = reading
-        self.words = [*reading.words(), *(["--rule-out"] if is_ruling_out else [])]
+        self.options = [*reading.options(), *(["--rule-out"] if is_ruling_out else [])]
         self.runs = 0
 
     def answer(self, text: bytes) -> str:
         """The line that a check writes for a text."""
-        return self.run(["check", *self.words], text)
+        return self.run(["check", *self.options], text)
 
     def verified(self, text: bytes, witness: bytes) -> str:
         """The line that a verification of the witness writes."""
         with open(os.memfd_create("witness"), "wb") as file:
             file.write(witness)
             file.flush()
-            return self.run(["verify", "/dev/stdin", f"/dev/fd/{file.fileno()}", *self.reading.words()], text, [file.fileno()])
+            return self.run(["verify", "/dev/stdin", f"/dev/fd/{file.fileno()}", *self.reading.options()], text, [file.fileno()])
 
-    def run(self, words: Sequence[str], text: bytes, files: Sequence[int] = ()) -> str:
+    def run(self, options: Sequence[str], text: bytes, files: Sequence[int] = ()) -> str:
         """The line that a command writes."""
         self.runs += 1
-        ran = subprocess.run([self.path, *words], input=text, stdout=subprocess.PIPE, stderr=subprocess.PIPE, pass_fds=files)
+        ran = subprocess.run([self.path, *options], input=text, stdout=subprocess.PIPE, stderr=subprocess.PIPE, pass_fds=files)
         if ran.returncode > 2:
             raise ShrinkError(f"{self.path}: {ran.stderr.decode(errors='replace').strip()}")
         return ran.stdout.decode()
@@ -73,7 +73,7 @@ class Shrinker:
     def __init__(self, lines: Iterable[bytes], program: Program, witness: Optional[bytes] = None) -> None:
         self.program = program
         self.has_witness = witness is not None
-        self.recorded = Recorded(lines, program.reading)
+        self.recorded = ParsedHistory(lines, program.reading)
         text = b"".join(self.recorded.lines)
         told = program.answer(text)
         if not told.startswith(("no ", "refuted ")):
@@ -88,24 +88,24 @@ class Shrinker:
         self.kept = set(self.calls)
         self.wanted = self.read_answer(told, self.kept)
         self.before = len(self.kept)
-        self.makers: Dict[Version, int] = {it.made: it.number for it in self.calls.values() if it.made}
+        self.makers: Dict[VersionKey, int] = {it.made: it.number for it in self.calls.values() if it.made}
         self.readers = self.calls_by_version()
 
-    def read_answer(self, told: str, kept: Set[int]) -> Answer:
+    def read_answer(self, told: str, kept: Set[int]) -> WantedAnswer:
         """What a line says of a history of these calls."""
         word = told.split(" ", 1)[0]
         fields = dict(it.split("=", 1) for it in told.split()[1:])
         if word != "no":
             calls = tuple(int(it) for it in fields.get("calls", "").split(",") if it)
-            return Answer(word, fields.get("kind", ""), calls, True)
+            return WantedAnswer(word, fields.get("kind", ""), calls, True)
         number = int(fields["call"])
         id = self.calls[number].id
         is_proved = all(self.recorded.is_decided(it) for it in map(self.calls.__getitem__, kept) if it.id == id)
-        return Answer(word, "", (number,), is_proved)
+        return WantedAnswer(word, "", (number,), is_proved)
 
-    def calls_by_version(self) -> Dict[Version, List[int]]:
+    def calls_by_version(self) -> Dict[VersionKey, List[int]]:
         """The calls that stand on each version: gets that found it, and writes that were performed under its pair."""
-        readers: Dict[Version, List[int]] = {}
+        readers: Dict[VersionKey, List[int]] = {}
         for number, it in self.calls.items():
             if it.stands_on is not None:
                 readers.setdefault(it.stands_on, []).append(number)
@@ -165,7 +165,7 @@ class Shrinker:
                     return
             size *= WINDOW_FACTOR
 
-    def closed(self, base: Set[int], window: Sequence[Call], beginnings: Beginnings) -> Set[int]:
+    def closed(self, base: Set[int], window: Sequence[ParsedCall], beginnings: Beginnings) -> Set[int]:
         """The calls of the base, those that made the documents which are there when a window begins, and the calls of the window that stand on
         no write outside of these."""
         makers = (beginnings.maker_at(id, window[0].line) for id in {it.id for it in window})
@@ -174,7 +174,7 @@ class Shrinker:
         outside = [it.number for it in window if self.maker_of(it) not in inside and self.maker_of(it) is not None]
         return inside.difference(self.with_readers(outside, inside) - kept)
 
-    def maker_of(self, call: Call) -> Optional[int]:
+    def maker_of(self, call: ParsedCall) -> Optional[int]:
         """The number of the call whose reply says that it made the version on which a call stands."""
         return None if call.stands_on is None else self.makers.get(call.stands_on)
 
@@ -201,7 +201,7 @@ class Shrinker:
         return is_any_gone
 
 
-# The words
+# The command line
 
 
 def program_at_hand() -> str:
@@ -216,7 +216,7 @@ def program_at_hand() -> str:
     return found
 
 
-def words_of(arguments: Optional[Sequence[str]]) -> argparse.Namespace:
+def parse_arguments(arguments: Optional[Sequence[str]]) -> argparse.Namespace:
     """Reads the arguments of the command; without any, those of the process."""
     parser = argparse.ArgumentParser(description="Cuts a history down to few calls that get the same answer from casbench, and prints it.")
     add = parser.add_argument
@@ -255,7 +255,7 @@ def read_file(path: Optional[str]) -> Optional[bytes]:
 
 def main(arguments: Optional[Sequence[str]] = None) -> int:
     """Cuts down by the words given, and returns the exit status: 0, or 1 if there is nothing to cut down, or it can't be written."""
-    setting = words_of(arguments)
+    setting = parse_arguments(arguments)
     try:
         program = Program(setting.program or program_at_hand(), reading_of(setting), is_ruling_out(setting))
         with open(setting.file, "rb") as lines:

@@ -2,7 +2,7 @@
 
 import sys
 
-from . import main
+from casbench_recording.stand_in import main
 
 if __name__ == "__main__":
     sys.exit(main())

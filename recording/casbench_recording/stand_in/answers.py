@@ -8,7 +8,7 @@ from .shard_copy import Entry
 Answer = Tuple[int, Any]
 """A status and a body."""
 
-Words = Mapping[str, Any]
+RequestParameters = Mapping[str, Any]
 """The words of a request's query, or those of one document's place in a request of several."""
 
 
@@ -33,28 +33,28 @@ def rejected(what: str) -> Answer:
     return error(429, "opensearch_rejected_execution_exception", f"rejected execution of {what}")
 
 
-def pair_of(words: Words) -> Optional[Tuple[int, int]]:
+def pair_of(parameters: RequestParameters) -> Optional[Tuple[int, int]]:
     """The condition that words name, if any: a term and a number."""
-    number, term = words.get("if_seq_no"), words.get("if_primary_term")
+    number, term = parameters.get("if_seq_no"), parameters.get("if_primary_term")
     return None if number is None or term is None else (int(term), int(number))
 
 
-def shown(index: str, document: str, entry: Optional[Entry], words: Words) -> Answer:
+def shown(index: str, document: str, entry: Optional[Entry], parameters: RequestParameters) -> Answer:
     """The answer to a get that shows this change of the document, or that the document isn't there."""
     if entry is None or entry.source is None:
         return 404, {"_index": index, "_id": document, "found": False}
     body = {"_index": index, "_id": document, "_version": entry.changes, "_seq_no": entry.number}
-    return 200, {**body, "_primary_term": entry.term, "found": True, **shown_source(entry.source, words)}
+    return 200, {**body, "_primary_term": entry.term, "found": True, **shown_source(entry.source, parameters)}
 
 
-def shown_source(source: Dict[str, Any], words: Words) -> Dict[str, Any]:
+def shown_source(source: Dict[str, Any], parameters: RequestParameters) -> Dict[str, Any]:
     """The member of an answer that shows the source, or what the words leave of it."""
-    wanted = words.get("_source", "true")
-    if wanted in ("false", False) or "stored_fields" in words:
+    wanted = parameters.get("_source", "true")
+    if wanted in ("false", False) or "stored_fields" in parameters:
         return {}
-    fields = words.get("_source_includes", "" if wanted in ("true", True) else wanted)
+    fields = parameters.get("_source_includes", "" if wanted in ("true", True) else wanted)
     fields = fields if isinstance(fields, list) else fields.split(",") if fields else list(source)
-    left_out = words.get("_source_excludes", "").split(",")
+    left_out = parameters.get("_source_excludes", "").split(",")
     return {"_source": {key: it for key, it in source.items() if key in fields and key not in left_out}}
 
 
@@ -75,16 +75,16 @@ def unchanged(shard: ShardId, entry: Entry) -> Answer:
     return 200, {**body, "_shards": shards, "_seq_no": entry.number, "_primary_term": entry.term}
 
 
-def conflict(shard: ShardId, document: str, last: Optional[Entry], words: Words) -> Answer:
+def conflict(shard: ShardId, document: str, last: Optional[Entry], parameters: RequestParameters) -> Answer:
     """The answer to a write that met a conflict; its reason names the pair that the primary has."""
-    condition = pair_of(words)
+    condition = pair_of(parameters)
     if condition is not None:
         why = f"required seqNo [{condition[1]}], primary term [{condition[0]}]. "
         is_there = last is not None and last.source is not None
         found = f"current document has seqNo [{last.number}] and primary term [{last.term}]" if last else ""
         why += found if is_there else "but no document was found"
-    elif "version" in words:
-        why = f"current version [{last.changes if last else -1}] is higher or equal to the one provided [{words['version']}]"
+    elif "version" in parameters:
+        why = f"current version [{last.changes if last else -1}] is higher or equal to the one provided [{parameters['version']}]"
     else:
         why = f"document already exists (current version [{last.changes if last else 1}])"
     reason = f"[{document}]: version conflict, {why}"

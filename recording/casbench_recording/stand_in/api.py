@@ -3,12 +3,12 @@
 from typing import Any, Awaitable, Callable, Dict, List, Optional, Set, Tuple
 
 from .answers import Answer, error, no_index
-from .asked import Asked
 from .coordinator import Coordinator, new_id
 from .indexes import ShardId
+from .parsed_request import ParsedRequest
 from .several import bulk, change_all, multiple_get
 
-Action = Callable[[Coordinator, Asked], Awaitable[Answer]]
+Action = Callable[[Coordinator, ParsedRequest], Awaitable[Answer]]
 """The handler of a request."""
 
 VERSION = {
@@ -26,22 +26,22 @@ OF_ELASTICSEARCH = {"number": "7.17.0", "build_flavor": "default", "lucene_versi
 """The version that Elasticsearch reports, which its clients check."""
 
 
-async def answer_to(coordinator: Coordinator, asked: Asked) -> Answer:
+async def answer_to(coordinator: Coordinator, request: ParsedRequest) -> Answer:
     """Performs a request, and returns the answer."""
     try:
-        action = action_for(asked)
+        action = action_for(request)
         if action is not None:
-            return await action(coordinator, asked)
+            return await action(coordinator, request)
     except (KeyError, TypeError, ValueError, AttributeError) as fault:
         return error(400, "parse_exception", str(fault))
-    return error(400, "illegal_argument_exception", f"the stand-in has no {asked.method} /{'/'.join(asked.path)}")
+    return error(400, "illegal_argument_exception", f"the stand-in has no {request.method} /{'/'.join(request.path)}")
 
 
-def action_for(asked: Asked) -> Optional[Action]:
+def action_for(request: ParsedRequest) -> Optional[Action]:
     """The handler of this request, or None if there is none."""
     for methods, path, action in ROUTES:
-        if asked.method in methods and len(path) == len(asked.path):
-            if all(it in ("*", word) for it, word in zip(path, asked.path)):
+        if request.method in methods and len(path) == len(request.path):
+            if all(it in ("*", word) for it, word in zip(path, request.path)):
                 return action
     return None
 
@@ -49,73 +49,73 @@ def action_for(asked: Asked) -> Optional[Action]:
 def write_by(kind: str) -> Action:
     """The handler of a write of this kind to one document."""
 
-    async def write(coordinator: Coordinator, asked: Asked) -> Answer:
-        name, document = asked.path[0], asked.path[2] if len(asked.path) > 2 else new_id()
-        source = None if kind == "delete" else asked.value
-        is_create = kind == "create" or asked.words.get("op_type") == "create"
-        return await coordinator.act(name, "create" if is_create else kind, document, source, asked.words)
+    async def write(coordinator: Coordinator, request: ParsedRequest) -> Answer:
+        name, document = request.path[0], request.path[2] if len(request.path) > 2 else new_id()
+        source = None if kind == "delete" else request.value
+        is_create = kind == "create" or request.parameters.get("op_type") == "create"
+        return await coordinator.act(name, "create" if is_create else kind, document, source, request.parameters)
 
     return write
 
 
-async def get(coordinator: Coordinator, asked: Asked) -> Answer:
+async def get(coordinator: Coordinator, request: ParsedRequest) -> Answer:
     """Answers a get of one document."""
-    return await coordinator.get(asked.path[0], asked.path[2], asked.words)
+    return await coordinator.get(request.path[0], request.path[2], request.parameters)
 
 
-async def write_several(coordinator: Coordinator, asked: Asked) -> Answer:
+async def write_several(coordinator: Coordinator, request: ParsedRequest) -> Answer:
     """Answers a bulk request."""
-    return await bulk(coordinator, asked.path[0] if len(asked.path) > 1 else "", asked.body, asked.words)
+    return await bulk(coordinator, request.path[0] if len(request.path) > 1 else "", request.body, request.parameters)
 
 
-async def get_several(coordinator: Coordinator, asked: Asked) -> Answer:
+async def get_several(coordinator: Coordinator, request: ParsedRequest) -> Answer:
     """Answers a get of several documents."""
-    return await multiple_get(coordinator, asked.path[0] if len(asked.path) > 1 else "", asked.value, asked.words)
+    return await multiple_get(coordinator, request.path[0] if len(request.path) > 1 else "", request.value, request.parameters)
 
 
-async def change_by_query(coordinator: Coordinator, asked: Asked) -> Answer:
+async def change_by_query(coordinator: Coordinator, request: ParsedRequest) -> Answer:
     """Answers a change of all documents."""
-    return await change_all(coordinator, asked.path[0], "delete" if asked.path[1] == "_delete_by_query" else "index")
+    return await change_all(coordinator, request.path[0], "delete" if request.path[1] == "_delete_by_query" else "index")
 
 
-async def refresh(coordinator: Coordinator, asked: Asked) -> Answer:
+async def refresh(coordinator: Coordinator, request: ParsedRequest) -> Answer:
     """Answers a refresh: there is nothing to do."""
     return 200, {"_shards": {"failed": 0}}
 
 
-async def make(coordinator: Coordinator, asked: Asked) -> Answer:
+async def make(coordinator: Coordinator, request: ParsedRequest) -> Answer:
     """Answers a request to make an index."""
-    name, node = asked.path[0], coordinator.node
-    if not await node.ask_manager(node.cluster.manager.create, name, asked.value):
+    name, node = request.path[0], coordinator.node
+    if not await node.ask_manager(node.cluster.manager.create, name, request.value):
         return error(400, "resource_already_exists_exception", f"index [{name}] already exists", index=name)
     return 200, {"acknowledged": True, "shards_acknowledged": True, "index": name}
 
 
-async def remove(coordinator: Coordinator, asked: Asked) -> Answer:
+async def remove(coordinator: Coordinator, request: ParsedRequest) -> Answer:
     """Answers a request to delete an index."""
     node = coordinator.node
-    if not await node.ask_manager(node.cluster.manager.remove, asked.path[0]):
-        return no_index(asked.path[0])
+    if not await node.ask_manager(node.cluster.manager.remove, request.path[0]):
+        return no_index(request.path[0])
     return 200, {"acknowledged": True}
 
 
-async def describe(coordinator: Coordinator, asked: Asked) -> Answer:
+async def describe(coordinator: Coordinator, request: ParsedRequest) -> Answer:
     """Answers with the description of an index."""
-    index = coordinator.index(asked.path[0])
-    return no_index(asked.path[0]) if index is None else (200, {index.name: index.described()})
+    index = coordinator.index(request.path[0])
+    return no_index(request.path[0]) if index is None else (200, {index.name: index.described()})
 
 
-async def describe_settings(coordinator: Coordinator, asked: Asked) -> Answer:
+async def describe_settings(coordinator: Coordinator, request: ParsedRequest) -> Answer:
     """Answers with the settings of an index."""
-    index = coordinator.index(asked.path[0])
-    return no_index(asked.path[0]) if index is None else (200, {index.name: {"settings": {"index": index.settings}}})
+    index = coordinator.index(request.path[0])
+    return no_index(request.path[0]) if index is None else (200, {index.name: {"settings": {"index": index.settings}}})
 
 
-async def report_stats(coordinator: Coordinator, asked: Asked) -> Answer:
+async def report_stats(coordinator: Coordinator, request: ParsedRequest) -> Answer:
     """Answers with the sequence numbers of the copies of each shard."""
-    index = coordinator.index(asked.path[0])
+    index = coordinator.index(request.path[0])
     if index is None:
-        return no_index(asked.path[0])
+        return no_index(request.path[0])
     return 200, {"indices": {index.name: {"shards": {str(it.number): copies_of(coordinator, it) for it in index.shards}}}}
 
 
@@ -132,30 +132,30 @@ def copies_of(coordinator: Coordinator, shard: ShardId) -> List[Dict[str, Any]]:
     return rows
 
 
-async def report_state(coordinator: Coordinator, asked: Asked) -> Answer:
+async def report_state(coordinator: Coordinator, request: ParsedRequest) -> Answer:
     """Answers with the metadata of an index."""
     state = coordinator.node.state
-    index = state.indexes[asked.path[3]]
+    index = state.indexes[request.path[3]]
     terms = {str(it.number): state.routings[it].term for it in index.shards}
     return 200, {"metadata": {"indices": {index.name: {"routing_num_shards": index.routing_shards, "primary_terms": terms}}}}
 
 
-async def report_shard(coordinator: Coordinator, asked: Asked) -> Answer:
+async def report_shard(coordinator: Coordinator, request: ParsedRequest) -> Answer:
     """Answers with the shard of a routing, and with the nodes of its active copies."""
     state, nodes = coordinator.node.state, coordinator.node.cluster.nodes
-    index = state.indexes[asked.path[0]]
-    shard = index.shards[index.shard_number(asked.words["routing"])]
+    index = state.indexes[request.path[0]]
+    shard = index.shards[index.shard_number(request.parameters["routing"])]
     routing = state.routings[shard]
     numbers = sorted(routing.active, key=lambda it: it != routing.primary)
     place = {"index": index.name, "shard": shard.number}
     return 200, {"shards": [[{**place, "primary": it == routing.primary, "node": nodes[it].name} for it in numbers]]}
 
 
-async def list_shards(coordinator: Coordinator, asked: Asked) -> Answer:
+async def list_shards(coordinator: Coordinator, request: ParsedRequest) -> Answer:
     """Answers with the nodes of the active copies of an index, in the format of `_cat/shards?format=json`."""
     state, nodes = coordinator.node.state, coordinator.node.cluster.nodes
     rows = []
-    for shard in state.indexes[asked.path[2]].shards:
+    for shard in state.indexes[request.path[2]].shards:
         routing = state.routings[shard]
         for it in sorted(routing.active):
             kind = "p" if it == routing.primary else "r"
@@ -163,11 +163,11 @@ async def list_shards(coordinator: Coordinator, asked: Asked) -> Answer:
     return 200, rows
 
 
-async def reroute(coordinator: Coordinator, asked: Asked) -> Answer:
+async def reroute(coordinator: Coordinator, request: ParsedRequest) -> Answer:
     """Has nodes give up primaries, by the command `cancel`; no other command is supported."""
     node = coordinator.node
     names = [it.name for it in node.cluster.nodes]
-    for command in asked.value["commands"]:
+    for command in request.value["commands"]:
         cancel = command["cancel"]
         shard, number = node.state.indexes[cancel["index"]].shards[cancel["shard"]], names.index(cancel["node"])
         if not cancel["allow_primary"] or not await node.ask_manager(node.cluster.manager.give_up_primary, shard, number):
@@ -175,7 +175,7 @@ async def reroute(coordinator: Coordinator, asked: Asked) -> Answer:
     return 200, {"acknowledged": True}
 
 
-async def report_health(coordinator: Coordinator, asked: Asked) -> Answer:
+async def report_health(coordinator: Coordinator, request: ParsedRequest) -> Answer:
     """Answers with the number of active copies."""
     state, manager = coordinator.node.state, coordinator.node.cluster.manager
     wanted = sum(len(it.shards) * (it.replicas + 1) for it in state.indexes.values())
@@ -186,13 +186,13 @@ async def report_health(coordinator: Coordinator, asked: Asked) -> Answer:
     return 200, {"cluster_name": "stand-in", "status": status, "timed_out": False, **counts}
 
 
-async def greet(coordinator: Coordinator, asked: Asked) -> Answer:
+async def greet(coordinator: Coordinator, request: ParsedRequest) -> Answer:
     """Answers with name and version, as OpenSearch does."""
     names = {"name": coordinator.node.name, "cluster_name": "stand-in", "cluster_uuid": "c3RhbmQtaW4tb2YtYS1jbA"}
     return 200, {**names, "version": VERSION, "tagline": "The OpenSearch Project: https://opensearch.org/"}
 
 
-async def greet_as_elasticsearch(coordinator: Coordinator, asked: Asked) -> Answer:
+async def greet_as_elasticsearch(coordinator: Coordinator, request: ParsedRequest) -> Answer:
     """Answers with name and version, as Elasticsearch does."""
     return 200, {"name": "stand-in", "version": OF_ELASTICSEARCH, "tagline": "You Know, for Search"}
 

@@ -6,13 +6,13 @@ If OPENSEARCH_USER and OPENSEARCH_PASSWORD are set, or OPENSEARCH_HEADER, whoeve
 import argparse
 import asyncio
 import contextlib
-import os
 import random
-import sys
 from typing import List, Optional, Sequence
 
+from casbench_recording.console import usage_name
+
 from .cluster import Cluster, ClusterSetting
-from .disturbances import Disturber, Plan
+from .disturbances import NodeDisturber, Plan
 from .faults import FAULTS, Faults
 from .second_nodes import CutOffCoordinator, LaggingCoordinator
 from .server import Server, ServerSetting
@@ -28,9 +28,7 @@ DISTURBANCES = {
 def parser_of_words() -> argparse.ArgumentParser:
     """What reads the words of the command."""
     faults = "; ".join(f"{name}: {meaning}" for name, meaning in FAULTS.items())
-    # (run as a module it is called as other modules are)
-    name = "stand_in.py" if os.path.basename(sys.argv[0]) == "__main__.py" else None
-    parser = argparse.ArgumentParser(prog=name, description="Stands in for an OpenSearch cluster.", epilog=f"Faults: {faults}.")
+    parser = argparse.ArgumentParser(prog=usage_name("stand_in"), description="Stands in for an OpenSearch cluster.", epilog=f"Faults: {faults}.")
     add = parser.add_argument
     add("--port", type=int, default=9201, help="the port on 127.0.0.1; that of each further node is the next one; 0: free ones (9201)")
     add("--nodes", type=int, default=1, help="how many nodes there are (1)")
@@ -55,7 +53,7 @@ def parser_of_words() -> argparse.ArgumentParser:
     return parser
 
 
-def words_of(arguments: Optional[Sequence[str]]) -> argparse.Namespace:
+def parse_arguments(arguments: Optional[Sequence[str]]) -> argparse.Namespace:
     """Reads the arguments of the command; without any, those of the process."""
     parser = parser_of_words()
     setting = parser.parse_args(arguments)
@@ -93,13 +91,13 @@ async def serve(setting: argparse.Namespace) -> None:
         it.report()
     every = {kind: getattr(setting, f"{kind}_every") for kind in DISTURBANCES}
     plan = Plan({kind: it for kind, it in every.items() if it}, setting.lasting, setting.spare)
-    await Disturber(cluster, servers, plan, random.Random()).run()
+    await NodeDisturber(cluster, servers, plan, random.Random()).run()
     await asyncio.get_running_loop().create_future()
 
 
 def main(arguments: Optional[Sequence[str]] = None) -> int:
     """Serves until it is stopped."""
-    setting = words_of(arguments)
+    setting = parse_arguments(arguments)
     with contextlib.suppress(KeyboardInterrupt):
         asyncio.run(serve(setting))
     return 0

@@ -8,9 +8,10 @@ import re
 from http import HTTPStatus
 from typing import TYPE_CHECKING, Any, Optional, cast
 
-from ..http1 import BadMessage, Body, Request, request_of, split_head
+from casbench_recording.http1 import BadMessage, Body, Request, request_of, split_head
+
 from .answers import error
-from .asked import Asked, read_request
+from .parsed_request import ParsedRequest, read_request
 
 if TYPE_CHECKING:
     from .server import Server
@@ -87,16 +88,16 @@ class ServerConnection(asyncio.BufferedProtocol):
         self.is_busy, self.body = False, None
         self.go_on()
 
-    async def answer_to(self, asked: Asked) -> None:
+    async def answer_to(self, request: ParsedRequest) -> None:
         """Answers a request, unless a fault strikes it."""
         faults = self.server.faults
-        if not asked.is_of_documents:
-            self.send(*await self.server.act(asked))
+        if not request.is_of_documents:
+            self.send(*await self.server.act(request))
             return
         if faults.strikes("drop-before"):
             self.transport.close()
             return
-        status, body = await self.server.act(asked)
+        status, body = await self.server.act(request)
         await self.pass_time()
         if faults.strikes("drop-after"):
             self.transport.close()

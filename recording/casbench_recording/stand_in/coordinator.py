@@ -4,12 +4,12 @@ import base64
 import itertools
 import re
 import time
-from typing import TYPE_CHECKING, Any, Awaitable, Callable, Dict, List, Optional, Sequence, TypeVar
+from typing import TYPE_CHECKING, Any, Awaitable, Callable, Dict, List, Optional, Sequence
 
-from .answers import Answer, Words, error, no_document, no_index, shown, unchanged
+from .answers import Answer, RequestParameters, error, no_document, no_index, shown, unchanged
 from .indexes import Index, ShardId
 from .manager import Routing
-from .network import Disconnected, NoCopy, NotPrimary
+from .network import Disconnected, NoCopy, NotPrimary, Returned
 from .primary import Write
 from .shard_copy import Entry
 from .updates import prepared
@@ -19,8 +19,6 @@ if TYPE_CHECKING:
 
 SECONDS = {"ms": 0.001, "s": 1.0, "m": 60.0, "h": 3600.0}
 """How long the units of a time are."""
-
-Returned = TypeVar("Returned")
 
 IDS = itertools.count()
 
@@ -55,25 +53,25 @@ class Coordinator:
 
     # Gets
 
-    async def get(self, name: str, document: str, words: Words) -> Answer:
+    async def get(self, name: str, document: str, parameters: RequestParameters) -> Answer:
         """Answers a get."""
-        return (await self.get_all(name, [document], [words]))[0]
+        return (await self.get_all(name, [document], [parameters]))[0]
 
-    async def get_all(self, name: str, documents: Sequence[str], words: Sequence[Words]) -> List[Answer]:
+    async def get_all(self, name: str, documents: Sequence[str], parameters: Sequence[RequestParameters]) -> List[Answer]:
         """Answers gets of documents of an index, of which those of one shard are answered by one copy."""
         index = self.index(name)
         if index is None:
             return [no_index(name) for _ in documents]
-        shards = [index.shard(*it) for it in zip(documents, words)]
+        shards = [index.shard(*it) for it in zip(documents, parameters)]
         answers: Dict[int, Answer] = {}
         for shard in dict.fromkeys(shards):
             places = [at for at, it in enumerate(shards) if it == shard]
             try:
-                entries = await self._entries(shard, [documents[at] for at in places], words[places[0]].get("preference"))
+                entries = await self._entries(shard, [documents[at] for at in places], parameters[places[0]].get("preference"))
             except Unavailable as fault:
                 answers.update((at, fault.answer) for at in places)
             else:
-                answers.update((at, shown(index.name, documents[at], it, words[at])) for at, it in zip(places, entries))
+                answers.update((at, shown(index.name, documents[at], it, parameters[at])) for at, it in zip(places, entries))
         return [answers[at] for at, _ in enumerate(documents)]
 
     async def _entries(self, shard: ShardId, documents: Sequence[str], preference: Optional[str]) -> List[Optional[Entry]]:
@@ -108,17 +106,17 @@ class Coordinator:
 
     # Writes
 
-    async def write(self, shard: ShardId, writes: Sequence[Write], words: Words) -> List[Answer]:
+    async def write(self, shard: ShardId, writes: Sequence[Write], parameters: RequestParameters) -> List[Answer]:
         """Has the primary perform writes, in their order."""
         overload = self.node.cluster.overload
         refused = overload.of_waiting()
-        answers = await self._performed(shard, writes, words) if refused is None or overload.performs_it() else []
+        answers = await self._performed(shard, writes, parameters) if refused is None or overload.performs_it() else []
         return answers if refused is None else [refused for _ in writes]
 
-    async def _performed(self, shard: ShardId, writes: Sequence[Write], words: Words) -> List[Answer]:
+    async def _performed(self, shard: ShardId, writes: Sequence[Write], parameters: RequestParameters) -> List[Answer]:
         """The answers to writes by the primary, or that it couldn't be reached."""
         try:
-            return await self._rerouted(shard, seconds_of(words.get("timeout", "1m")), type(self.node).perform, writes)
+            return await self._rerouted(shard, seconds_of(parameters.get("timeout", "1m")), type(self.node).perform, writes)
         except Unavailable as fault:
             return [fault.answer for _ in writes]
 
@@ -151,7 +149,7 @@ class Coordinator:
     async def update(self, shard: ShardId, write: Write) -> Answer:
         """Answers an update: the primary's node reads the document and writes it, all of which is tried again as a write is."""
         try:
-            return await self._rerouted(shard, seconds_of(write.words.get("timeout", "1m")), type(self.node).update, write)
+            return await self._rerouted(shard, seconds_of(write.parameters.get("timeout", "1m")), type(self.node).update, write)
         except Unavailable as fault:
             return fault.answer
 
@@ -166,26 +164,26 @@ class Coordinator:
         refused = self.node.cluster.overload.of_coordinating()
         if refused is not None:
             return refused
-        words = dict(write.words)
-        if last is not None and last.source is not None and "if_seq_no" not in words:
-            words.update(if_seq_no=last.number, if_primary_term=last.term)
-        (answer,) = await self._performed(shard, [Write(change.kind, write.document, change.source, words)], words)
-        tries = int(write.words.get("retry_on_conflict", 0))
+        parameters = dict(write.parameters)
+        if last is not None and last.source is not None and "if_seq_no" not in parameters:
+            parameters.update(if_seq_no=last.number, if_primary_term=last.term)
+        (answer,) = await self._performed(shard, [Write(change.kind, write.document, change.source, parameters)], parameters)
+        tries = int(write.parameters.get("retry_on_conflict", 0))
         if answer[0] == 409 and tries:
-            return await self.update(shard, write._replace(words={**write.words, "retry_on_conflict": tries - 1}))
+            return await self.update(shard, write._replace(parameters={**write.parameters, "retry_on_conflict": tries - 1}))
         return answer
 
-    async def act(self, name: str, kind: str, document: str, source: Any, words: Words) -> Answer:
+    async def act(self, name: str, kind: str, document: str, source: Any, parameters: RequestParameters) -> Answer:
         """Answers a write of one document."""
         index = await self.index_to_write(name) if kind in ("index", "create") else self.index(name)
         if index is None:
             return no_index(name)
-        shard, write = index.shard(document, words), Write(kind, document, source, words)
+        shard, write = index.shard(document, parameters), Write(kind, document, source, parameters)
         if kind == "update":
             # (it may be refused where it writes, when it was performed once before)
             return await self.update(shard, write)
         refused = self.node.cluster.overload.of_coordinating()
-        return refused if refused is not None else (await self.write(shard, [write], words))[0]
+        return refused if refused is not None else (await self.write(shard, [write], parameters))[0]
 
 
 def new_id() -> str:

@@ -4,7 +4,8 @@ import asyncio
 import random
 from typing import Awaitable, Callable, Dict, NamedTuple, Optional, Sequence
 
-from ..console import tell
+from casbench_recording.console import tell
+
 from .cluster import Cluster
 from .server import Server
 
@@ -21,7 +22,7 @@ class Plan(NamedTuple):
     spared: int
 
 
-class Disturber:
+class NodeDisturber:
     """Disturbs the nodes of a cluster, and what they serve."""
 
     def __init__(self, cluster: Cluster, servers: Sequence[Server], plan: Plan, draw: random.Random) -> None:

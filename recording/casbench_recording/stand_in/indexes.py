@@ -2,7 +2,7 @@
 
 from typing import Any, Dict, Mapping, NamedTuple
 
-from ..routing import shard_of
+from casbench_recording.shard_routing import shard_of
 
 
 class ShardId(NamedTuple):
@@ -16,14 +16,14 @@ class ShardId(NamedTuple):
 class Index:
     """An index, and the settings that it was made with. Those that were not named are the defaults of the cluster."""
 
-    def __init__(self, name: str, asked: Mapping[str, Any], generation: int = 0, shards: int = 1, replicas: int = 0) -> None:
-        settings = asked.get("settings", {})
+    def __init__(self, name: str, request: Mapping[str, Any], generation: int = 0, shards: int = 1, replicas: int = 0) -> None:
+        settings = request.get("settings", {})
         settings = {**settings, **settings.get("index", {})}
         count, replicas = int(settings.get("number_of_shards", shards)), int(settings.get("number_of_replicas", replicas))
         self.name = name
         self.settings = {key: str(it) for key, it in settings.items() if not isinstance(it, dict)}
         self.settings.update({"number_of_shards": str(count), "number_of_replicas": str(replicas)})
-        self.mappings, self.aliases = asked.get("mappings", {}), asked.get("aliases", {})
+        self.mappings, self.aliases = request.get("mappings", {}), request.get("aliases", {})
         self.replicas = replicas
         self.routing_shards = count << max(1, 10 - (count - 1).bit_length())
         self.shards = [ShardId(name, generation, number) for number in range(count)]
@@ -32,9 +32,9 @@ class Index:
         """The number of the shard that a routing is on."""
         return shard_of(routing, len(self.shards), self.routing_shards)
 
-    def shard(self, document: str, words: Mapping[str, Any]) -> ShardId:
+    def shard(self, document: str, parameters: Mapping[str, Any]) -> ShardId:
         """The shard that a document is on, or the one that the words name by a routing."""
-        return self.shards[self.shard_number(str(words.get("routing", document)))]
+        return self.shards[self.shard_number(str(parameters.get("routing", document)))]
 
     def described(self) -> Dict[str, Any]:
         """What a request for the index is answered with."""

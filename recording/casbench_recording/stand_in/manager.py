@@ -6,10 +6,22 @@ each member has it.
 
 import asyncio
 import contextlib
-from typing import TYPE_CHECKING, Any, Callable, Dict, FrozenSet, List, Mapping, NamedTuple, Optional, Set, Tuple
+from typing import (
+    TYPE_CHECKING,
+    Any,
+    Callable,
+    Dict,
+    FrozenSet,
+    List,
+    Mapping,
+    NamedTuple,
+    Optional,
+    Set,
+    Tuple,
+)
 
 from .indexes import Index, ShardId
-from .network import Disconnected, Refused
+from .network import Disconnected, RequestRefused
 
 if TYPE_CHECKING:
     from .cluster import Cluster
@@ -30,7 +42,7 @@ class Routing(NamedTuple):
     active: FrozenSet[int]
 
 
-class State(NamedTuple):
+class ClusterState(NamedTuple):
     """A cluster state."""
 
     version: int
@@ -38,7 +50,7 @@ class State(NamedTuple):
     routings: Mapping[ShardId, Routing]
 
 
-EMPTY = State(0, {}, {})
+EMPTY = ClusterState(0, {}, {})
 
 
 class Manager:
@@ -60,14 +72,14 @@ class Manager:
 
     # Indexes
 
-    async def create(self, name: str, asked: Mapping[str, Any]) -> bool:
+    async def create(self, name: str, request: Mapping[str, Any]) -> bool:
         """Makes an index, unless there is one of this name; returns whether it did."""
         async with self._lock:
             if name in self.state.indexes:
                 return False
             cluster = self.cluster
             self._generation += 1
-            index = Index(name, asked, self._generation, cluster.shards, cluster.replicas)
+            index = Index(name, request, self._generation, cluster.shards, cluster.replicas)
             routings = {shard: self._placed(shard, index.replicas) for shard in index.shards}
             await self._publish({**self.state.indexes, name: index}, {**self.state.routings, **routings})
         return True
@@ -148,7 +160,7 @@ class Manager:
             if primary is not None and number in self.members and self.cluster.nodes[primary].is_reachable:
                 at_work = self.cluster.nodes[primary].primaries.get(shard)
                 if at_work is not None:
-                    with contextlib.suppress(Disconnected, Refused):
+                    with contextlib.suppress(Disconnected, RequestRefused):
                         await at_work.recover(number)
             await asyncio.sleep(TRIES_AGAIN_AFTER)
         self._recovering.discard((shard, number))
@@ -198,7 +210,7 @@ class Manager:
 
     async def _publish(self, indexes: Mapping[str, Index], routings: Mapping[ShardId, Routing]) -> None:
         """Sends a new state to the members; returns when each has it, or is a member no longer."""
-        self.state = State(self.state.version + 1, indexes, routings)
+        self.state = ClusterState(self.state.version + 1, indexes, routings)
         for shard, routing in routings.items():
             if routing.active:
                 self.in_sync[shard] = routing.active
@@ -208,7 +220,7 @@ class Manager:
             return
         await asyncio.gather(*[self._hand_over(self.state, it) for it in sorted(self.members)])
 
-    async def _hand_over(self, state: State, number: int) -> None:
+    async def _hand_over(self, state: ClusterState, number: int) -> None:
         """Sends a state to a member; returns when it has that one or a later one, or is a member no longer."""
         cluster = self.cluster
         await asyncio.sleep(cluster.network.delay())

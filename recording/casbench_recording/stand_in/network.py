@@ -15,19 +15,19 @@ SLOW = 0.1
 Returned = TypeVar("Returned")
 
 
-class Refused(Exception):
+class RequestRefused(Exception):
     """What a node answers to another one if it doesn't do what it is asked for."""
 
 
-class NotPrimary(Refused):
+class NotPrimary(RequestRefused):
     """The node has not, or no longer, the primary of the shard."""
 
 
-class NoCopy(Refused):
+class NoCopy(RequestRefused):
     """The node has no copy of the shard that answers."""
 
 
-class OldTerm(Refused):
+class OldTerm(RequestRefused):
     """Who asks was a primary, and another one was promoted since."""
 
 
@@ -35,7 +35,7 @@ class Disconnected(Exception):
     """The connection to a node was lost. What it was asked for may have been done, or not."""
 
 
-class Exchange:
+class NodeRequest:
     """A request of one node to another, until it is answered or its connection is lost."""
 
     def __init__(self, source: "Node", target: "Node") -> None:
@@ -85,7 +85,7 @@ class Network:
         if source.is_removed or target.is_removed or not target.is_alive:
             await asyncio.sleep(self.delay())
             raise Disconnected(f"{target.name} can't be reached")
-        exchange = Exchange(source, target)
+        exchange = NodeRequest(source, target)
         task = asyncio.ensure_future(self._carry(exchange, act, arguments))
         self._carrying.add(task)
         task.add_done_callback(self._carrying.discard)
@@ -95,7 +95,7 @@ class Network:
         finally:
             exchange.end()
 
-    async def _carry(self, exchange: Exchange, act: Callable[..., Awaitable[Any]], arguments: Any) -> None:
+    async def _carry(self, exchange: NodeRequest, act: Callable[..., Awaitable[Any]], arguments: Any) -> None:
         """Carries a request there, and its answer back. Also what nobody waits for any longer arrives, if it had left."""
         await self._arrive(exchange, exchange.target)
         if not exchange.target.is_alive or exchange.is_cut:
@@ -113,7 +113,7 @@ class Network:
         else:
             exchange.answer.set_exception(fault)
 
-    async def _arrive(self, exchange: Exchange, receiver: "Node") -> None:
+    async def _arrive(self, exchange: NodeRequest, receiver: "Node") -> None:
         """Takes the time of a message, and waits until it comes through and its receiver takes it. A connection that is cut may be lost
         meanwhile."""
         await asyncio.sleep(self.delay())

@@ -1,20 +1,30 @@
 """A node: its copies of shards, what it knows of the cluster state, and what other nodes ask of it."""
 
 import asyncio
-from typing import TYPE_CHECKING, Any, Awaitable, Callable, Coroutine, Dict, List, Optional, Sequence, Set, Tuple, TypeVar
+from typing import (
+    TYPE_CHECKING,
+    Any,
+    Awaitable,
+    Callable,
+    Coroutine,
+    Dict,
+    List,
+    Optional,
+    Sequence,
+    Set,
+    Tuple,
+)
 
 from .answers import Answer
 from .coordinator import Coordinator
 from .indexes import ShardId
-from .manager import EMPTY, Routing, State
-from .network import Exchange, NoCopy, NotPrimary, OldTerm
+from .manager import EMPTY, ClusterState, Routing
+from .network import NoCopy, NodeRequest, NotPrimary, OldTerm, Returned
 from .primary import Primary, Replication, Write
 from .shard_copy import Contents, Entry, ShardCopy
 
 if TYPE_CHECKING:
     from .cluster import Cluster
-
-Returned = TypeVar("Returned")
 
 
 class Node:
@@ -28,12 +38,12 @@ class Node:
         self.copies = copies or {}
         self.recovering: Set[ShardId] = set()
         self.primaries: Dict[ShardId, Primary] = {}
-        self.state: State = EMPTY
+        self.state: ClusterState = EMPTY
         # whether it runs at all; whether it is stopped; whether no message goes to or from other nodes; whether the manager has removed
         # it; and whether it has noticed that it has no manager
         self.is_alive = True
         self.is_paused = self.is_cut = self.is_removed = self.is_alone = False
-        self.exchanges: Dict[Exchange, None] = {}
+        self.exchanges: Dict[NodeRequest, None] = {}
         self.coordinator = Coordinator(self)
         self._tasks: "Set[asyncio.Task[Any]]" = set()
 
@@ -80,7 +90,7 @@ class Node:
 
     # The cluster state
 
-    def apply(self, state: State) -> None:
+    def apply(self, state: ClusterState) -> None:
         """Takes a new cluster state."""
         if state.version <= self.state.version:
             return
@@ -159,7 +169,7 @@ class Node:
         for it in message.entries:
             is_dropped = message.top is None and self.cluster.faults.strikes("lagging-copy")
             copy.put(Entry(it.number, it.term) if is_dropped else it)
-        copy.heed(message.known)
+        copy.note_known(message.known)
         return copy.checkpoint
 
     async def begin_copy(self, shard: ShardId, attempt: Tuple[int, int]) -> None:

@@ -2,9 +2,20 @@
 
 import asyncio
 import time
-from typing import TYPE_CHECKING, Any, Awaitable, Callable, Dict, FrozenSet, List, NamedTuple, Optional, Sequence
+from typing import (
+    TYPE_CHECKING,
+    Any,
+    Awaitable,
+    Callable,
+    Dict,
+    FrozenSet,
+    List,
+    NamedTuple,
+    Optional,
+    Sequence,
+)
 
-from .answers import Answer, Words, conflict, no_document, pair_of, performed, unchanged
+from .answers import Answer, RequestParameters, conflict, no_document, pair_of, performed, unchanged
 from .indexes import ShardId
 from .network import Disconnected, NoCopy, NotPrimary, OldTerm
 from .shard_copy import Entry
@@ -24,7 +35,7 @@ class Write(NamedTuple):
     kind: str
     document: str
     source: Optional[Dict[str, Any]]
-    words: Words
+    parameters: RequestParameters
 
 
 class Replication(NamedTuple):
@@ -41,7 +52,7 @@ NO_OPERATION = Entry(-1, 0)
 """Stands for the operation of a write that has none."""
 
 
-class Outcome(NamedTuple):
+class WriteResult(NamedTuple):
     """What came of a write on the primary: the answer, if it isn't that of a write which was performed; the operation, which is
     replicated before it is answered; and whether the document was there."""
 
@@ -113,7 +124,7 @@ class Primary:
             await self._send_all(Replication(self.term, self.checkpoint, entries))
         if self.is_over:
             raise NotPrimary("the primary was replaced")
-        self.copy.heed(self.checkpoint)
+        self.copy.note_known(self.checkpoint)
         shards = self._shards(copies)
         return [it.answer or performed(self.shard, it.entry, it.was_there, shards) for it in outcomes]
 
@@ -124,22 +135,22 @@ class Primary:
         holding = sum(it.is_in_sync for it in self.targets.values()) + 1
         return {"total": total, "successful": holding, "failed": max(0, copies - len(self.targets) - 1)}
 
-    def _act(self, write: Write) -> Outcome:
+    def _act(self, write: Write) -> WriteResult:
         """Performs a write on the copy at hand, whatever the others have."""
         last = self.copy.last(write.document)
         if write.kind == "update":
             write, answer = self._updating(write, last)
             if answer is not None:
-                return Outcome(answer)
+                return WriteResult(answer)
         is_there = last is not None and last.source is not None
         faults = self.node.cluster.faults
-        if not is_met(write, last) and not (pair_of(write.words) is not None and faults.strikes("lost-update")):
-            return Outcome(conflict(self.shard, write.document, last, write.words))
+        if not is_met(write, last) and not (pair_of(write.parameters) is not None and faults.strikes("lost-update")):
+            return WriteResult(conflict(self.shard, write.document, last, write.parameters))
         entry = self._entry(write, last)
         self.copy.put(entry)
         if faults.strikes("false-conflict"):
-            return Outcome(conflict(self.shard, write.document, last, write.words), entry)
-        return Outcome(None, entry, is_there)
+            return WriteResult(conflict(self.shard, write.document, last, write.parameters), entry)
+        return WriteResult(None, entry, is_there)
 
     def _updating(self, write: Write, last: Optional[Entry]) -> "tuple[Write, Optional[Answer]]":
         """The write that an update of this document comes to, or its answer if it comes to none."""
@@ -156,7 +167,7 @@ class Primary:
         is_forgotten = last is not None and last.source is None and now - last.time > GC_DELETES
         changes = 1 if last is None or is_forgotten else last.changes + 1
         source = None if write.kind == "delete" else write.source
-        return Entry(self._number(), self.term, write.document, int(write.words.get("version", changes)), source, now)
+        return Entry(self._number(), self.term, write.document, int(write.parameters.get("version", changes)), source, now)
 
     def _number(self) -> int:
         """The number of the next operation."""
@@ -230,9 +241,9 @@ class Primary:
 def is_met(write: Write, last: Optional[Entry]) -> bool:
     """Whether a write may be performed on a document whose last change is this one."""
     is_there = last is not None and last.source is not None
-    condition = pair_of(write.words)
-    if write.kind == "create" or write.words.get("op_type") == "create":
+    condition = pair_of(write.parameters)
+    if write.kind == "create" or write.parameters.get("op_type") == "create":
         return not is_there
-    if str(write.words.get("version_type", "internal")).startswith("external"):
-        return last is None or int(write.words["version"]) > last.changes
+    if str(write.parameters.get("version_type", "internal")).startswith("external"):
+        return last is None or int(write.parameters["version"]) > last.changes
     return condition is None or last is not None and is_there and condition == last.pair

@@ -2,7 +2,7 @@
 
 from typing import List, Optional, Sequence
 
-from .answers import Answer, Words, error
+from .answers import Answer, RequestParameters, error
 from .coordinator import Coordinator
 from .indexes import ShardId
 from .primary import Write
@@ -23,9 +23,9 @@ class CutOffCoordinator(Coordinator):
         beginning = self.node.copies[shard].beginning
         return await super()._entries(shard, documents, preference) if beginning is None else list(map(beginning.get, documents))
 
-    async def write(self, shard: ShardId, writes: Sequence[Write], words: Words) -> List[Answer]:
+    async def write(self, shard: ShardId, writes: Sequence[Write], parameters: RequestParameters) -> List[Answer]:
         if self.node.copies[shard].beginning is None:
-            return await super().write(shard, writes, words)
+            return await super().write(shard, writes, parameters)
         refused = error(503, "cluster_block_exception", "blocked by: [SERVICE_UNAVAILABLE/2/no cluster-manager];")
         return [refused for _ in writes]
 

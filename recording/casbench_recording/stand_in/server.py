@@ -11,12 +11,12 @@ from typing import Mapping, NamedTuple, Optional, Set
 
 from .answers import Answer
 from .api import answer_to, greet_as_elasticsearch
-from .asked import Asked
 from .cluster import Cluster
 from .connection import ServerConnection
 from .coordinator import Coordinator
 from .faults import Faults
 from .node import Node
+from .parsed_request import ParsedRequest
 
 BACKLOG = 256
 """How many connections may wait."""
@@ -61,12 +61,12 @@ class Server:
         """The node as it runs now."""
         return self.cluster.nodes[self.number]
 
-    async def act(self, asked: Asked) -> Answer:
+    async def act(self, request: ParsedRequest) -> Answer:
         """Does what is asked for, and returns the answer."""
         coordinator = self._second or self.node.coordinator
-        if asked.path == [""] and self.setting.product:
-            return await greet_as_elasticsearch(coordinator, asked)
-        return await answer_to(coordinator, asked)
+        if request.path == [""] and self.setting.product:
+            return await greet_as_elasticsearch(coordinator, request)
+        return await answer_to(coordinator, request)
 
     async def listen(self) -> None:
         """Listens, at the first time as well as after the node was started again."""
@@ -109,8 +109,8 @@ def bound(port: int) -> socket.socket:
 def wanted_header(environment: Mapping[str, str]) -> Optional[bytes]:
     """The pattern of the header that a request has to have; None if none is asked for."""
     if "OPENSEARCH_USER" in environment:
-        words = f"{environment['OPENSEARCH_USER']}:{environment.get('OPENSEARCH_PASSWORD', '')}"
-        name, value = "Authorization", "Basic " + base64.b64encode(words.encode()).decode()
+        parameters = f"{environment['OPENSEARCH_USER']}:{environment.get('OPENSEARCH_PASSWORD', '')}"
+        name, value = "Authorization", "Basic " + base64.b64encode(parameters.encode()).decode()
     elif "OPENSEARCH_HEADER" in environment:
         name, _, value = environment["OPENSEARCH_HEADER"].partition(":")
     else:

@@ -4,7 +4,7 @@ import asyncio
 import json
 from typing import Any, Dict, List, NamedTuple
 
-from .answers import Answer, Words, no_index
+from .answers import Answer, RequestParameters, no_index
 from .coordinator import Coordinator, new_id
 from .indexes import ShardId
 from .primary import Write
@@ -13,29 +13,29 @@ KINDS = ("index", "create", "update", "delete")
 """What an item of a bulk request may do."""
 
 
-class Item(NamedTuple):
+class BulkWrite(NamedTuple):
     """An item of a bulk request: the index that it names, and the write."""
 
     index: str
     write: Write
 
 
-def items_of(name: str, text: str) -> List[Item]:
+def items_of(name: str, text: str) -> List[BulkWrite]:
     """The items of a bulk request to an index, if its path names one. Raises ValueError if it can't be read."""
     lines = iter([json.loads(it) for it in text.split("\n") if it.strip()])
     items = []
     for action in lines:
-        ((kind, words),) = action.items()
+        ((kind, parameters),) = action.items()
         if kind not in KINDS:
             raise ValueError(f"unknown action [{kind}]")
         source = next(lines, None) if kind != "delete" else None
-        if not isinstance(words, dict) or kind != "delete" and not isinstance(source, dict):
+        if not isinstance(parameters, dict) or kind != "delete" and not isinstance(source, dict):
             raise ValueError("a bulk request that can't be read")
-        items.append(Item(words.get("_index", name), Write(kind, words.get("_id") or new_id(), source, words)))
+        items.append(BulkWrite(parameters.get("_index", name), Write(kind, parameters.get("_id") or new_id(), source, parameters)))
     return items
 
 
-async def bulk(coordinator: Coordinator, name: str, text: str, words: Words) -> Answer:
+async def bulk(coordinator: Coordinator, name: str, text: str, parameters: RequestParameters) -> Answer:
     """Answers a bulk request: the items of each shard go to its primary together."""
     items = items_of(name, text)
     refused = coordinator.node.cluster.overload.of_coordinating()
@@ -49,8 +49,8 @@ async def bulk(coordinator: Coordinator, name: str, text: str, words: Words) -> 
         if index is None:
             answers[at] = no_index(item.index)
         else:
-            groups.setdefault(index.shard(item.write.document, item.write.words), []).append(at)
-    work = [coordinator.write(shard, [items[at].write for at in places], words) for shard, places in groups.items()]
+            groups.setdefault(index.shard(item.write.document, item.write.parameters), []).append(at)
+    work = [coordinator.write(shard, [items[at].write for at in places], parameters) for shard, places in groups.items()]
     for places, given in zip(groups.values(), await together(work)):
         answers.update(zip(places, given))
     rows = [item_answer(item, *answers[at]) for at, item in enumerate(items)]
@@ -62,7 +62,7 @@ async def together(work: List[Any]) -> List[Any]:
     return [await work[0]] if len(work) == 1 else await asyncio.gather(*work)
 
 
-def item_answer(item: Item, status: int, body: Dict[str, Any]) -> Dict[str, Any]:
+def item_answer(item: BulkWrite, status: int, body: Dict[str, Any]) -> Dict[str, Any]:
     """What the answer to a bulk request has of an item."""
     if "error" in body:
         cause = {key: it for key, it in body["error"].items() if key != "root_cause"}
@@ -70,14 +70,14 @@ def item_answer(item: Item, status: int, body: Dict[str, Any]) -> Dict[str, Any]
     return {item.write.kind: {**body, "_id": item.write.document, "status": status}}
 
 
-async def multiple_get(coordinator: Coordinator, name: str, asked: Dict[str, Any], words: Words) -> Answer:
+async def multiple_get(coordinator: Coordinator, name: str, request: Dict[str, Any], parameters: RequestParameters) -> Answer:
     """Answers a get of several documents, of one index after the other."""
-    places = asked.get("docs") or [{"_id": it} for it in asked["ids"]]
+    places = request.get("docs") or [{"_id": it} for it in request["ids"]]
     names = [it.get("_index", name) for it in places]
     found: Dict[int, Any] = {}
     for index in dict.fromkeys(names):
         ats = [at for at, it in enumerate(names) if it == index]
-        answers = await coordinator.get_all(index, [places[at]["_id"] for at in ats], [{**words, **places[at]} for at in ats])
+        answers = await coordinator.get_all(index, [places[at]["_id"] for at in ats], [{**parameters, **places[at]} for at in ats])
         found.update((at, place_answer(index, places[at]["_id"], body)) for at, (_, body) in zip(ats, answers))
     return 200, {"docs": [found[at] for at, _ in enumerate(places)]}
 

@@ -70,7 +70,7 @@ class ShardCopy:
         while len(versions) > 2 and versions[2].number <= self._forgotten:
             del versions[0]
 
-    def heed(self, known: int) -> None:
+    def note_known(self, known: int) -> None:
         """Notes up to which number each copy in sync has all, and forgets operations that nobody needs."""
         self.known = max(self.known, min(known, self.checkpoint))
         bound = min(self.known, self.top - KEPT)

@@ -1,0 +1,128 @@
+"""Witnesses: made from the log of a store, and checked without casbench.
+
+`witness_by_log` makes the witness of a history from the changes in a store's own log, for a strict check. `checked` runs
+`witness_checker`, which is written apart from the prover, and adds a sentence about the calls if the witness isn't valid.
+"""
+
+from typing import Iterator, Mapping, NamedTuple, Optional, Tuple
+
+from . import witness_checker
+from .format import Pair, compact
+from .readings import STRICT, Reading
+
+# From a log
+
+
+class StoreLog(NamedTuple):
+    """What a store's own log says of the calls of a history, by their numbers.
+
+    `changes` has the pair of each change, with the call that made it. `seen` has for each other answered call the pair of the last
+    change, of whichever document, that its answer had seen.
+    """
+
+    changes: Mapping[int, Pair]
+    seen: Mapping[int, Pair]
+
+
+class PlaceInLog(NamedTuple):
+    """A place of a document: the pair at which it stands, whether it stands behind the change with this pair, the number of its record,
+    and whether the pair is given."""
+
+    pair: Pair
+    is_behind: bool
+    record: int
+    is_given: bool
+
+
+def witness_by_log(history: bytes, log: StoreLog) -> Iterator[str]:
+    """The lines of the witness that the log is of the history: each change stands in the order of the log, each other answered call behind
+    the last change that it had seen. A call of which neither the log nor `seen` says anything stands in no place."""
+    for id, calls in witness_checker.Texts(history, b"").records.items():
+        yield compact({"doc": id}) + "\n"
+        for place in sorted(filter(None, (place_of(*it, log) for it in enumerate(calls)))):
+            yield text_of_place(place)
+
+
+def place_of(record: int, call: witness_checker.CheckedCall, log: StoreLog) -> Optional[PlaceInLog]:
+    """The place of a call. It gives the pair of a change that no reply shows."""
+    if call.number in log.changes:
+        return PlaceInLog(log.changes[call.number], False, record, call.pair is None)
+    if call.answered is not None and call.number in log.seen:
+        return PlaceInLog(log.seen[call.number], True, record, False)
+    return None
+
+
+def text_of_place(place: PlaceInLog) -> str:
+    """The line of a place."""
+    given = {"seq": place.pair.seq, "term": place.pair.term} if place.is_given else {}
+    return compact({"rec": place.record, **given}) + "\n"
+
+
+# The check
+
+
+def spelled(pair: Tuple[int, int]) -> str:
+    """A pair as term/number."""
+    return f"{pair[0]}/{pair[1]}"
+
+
+def named(call: witness_checker.CheckedCall) -> str:
+    """A call, with what it asked and what it was answered."""
+    asked = call.op if call.condition is None else f"{call.op} under {spelled(call.condition)}"
+    shown = "" if call.pair is None else f" {spelled(call.pair)}"
+    k = "" if call.found is None else f" with k={call.found}"
+    again = ", performed again" if call.is_again else ""
+    return f"call {call.number} ({asked}{again}: {call.reply}{shown}{k})"
+
+
+def version_named(last: Optional[Tuple[int, int]], k: Optional[int]) -> str:
+    """What a document is when its last change had this pair and left this number."""
+    if last is None:
+        return "was never written"
+    return f"was deleted by {spelled(last)}" if k is None else f"has the version {spelled(last)} with k={k}"
+
+
+SENTENCES = {
+    "doc-stranger": "No call of the history is of the document {id}.",
+    "doc-twice": "An earlier entry is of the document {id} too.",
+    "doc-missing": "No entry is of the document {id}, whose first call is {first}.",
+    "no-record": "The document {id} has no record with this number.",
+    "stranger": "A get without a reply has no place, and this place is that of {first}.",
+    "twice": "An earlier place of the document {id} is that of {first} too.",
+    "pair-missing": "The place gives no pair, though no reply shows which pair was taken by {first}.",
+    "pair-given": "The place gives a pair, though its call was answered: {first}.",
+    "late": "Before the place stands {second}, which was made after the reply to {first}.",
+    "illegal": "The reply can't be that of {first}, since the document {id} {version} before the place.",
+    "absent": "The document {id} has no place for an answered call, {first}.",
+    "pair-twice": "One pair is taken by two calls of a shard, {first} and {second}.",
+    "no-writer": "No write that was made before the reply can have given the document {id} what was found by {first}.",
+    "stale-get": "An older version was found by {first} than was written by {second}, whose reply came before the get was made.",
+    "missed-write": "Nothing was found by {first}, though a reply came before it was made to {second}, and no delete can be behind that.",
+}
+"""What is wrong, by the cause. `first` and `second` are calls, `version` is what the document is before a place."""
+
+
+def sentence_of(fault: witness_checker.Broken) -> str:
+    """What is wrong with a witness, in one sentence that names the calls."""
+    where, id, calls, *version = fault.args
+    cause = dict(it.split("=", 1) for it in where.split())["cause"]
+    first, second = ([named(it) for it in calls] + ["", ""])[:2]
+    told = SENTENCES["no-record" if cause == "stranger" and not calls else cause]
+    return told.format(id=compact(id), first=first, second=second, version=version_named(*version[0]) if version else "")
+
+
+def words_of(reading: Reading) -> witness_checker.ReadingValues:
+    """The reading by the values of the options, as the checker takes it."""
+    return witness_checker.ReadingValues(*(it.value for it in reading))
+
+
+def checked(history: bytes, witness: bytes, reading: Reading = STRICT) -> Tuple[int, str]:
+    """The exit status of a check of the two texts, and what it prints."""
+    try:
+        counts = witness_checker.check(witness_checker.Texts(history, witness, words_of(reading)))
+    except witness_checker.Refused as fault:
+        return 2, f"refused {fault}"
+    except witness_checker.Broken as fault:
+        return 1, f"broken {fault.args[0]}\n{sentence_of(fault)}"
+    gets = "" if counts.gets is None else f" gets={counts.gets}"
+    return 0, f"verified docs={counts.docs} calls={counts.calls} left_out={counts.left_out}{gets}"

@@ -1,0 +1,420 @@
+"""A load on a store: clients that read and write a few documents at the same time, and are recorded.
+
+    with History("carts.ndjson", most_events=10_000) as history:
+        load = Load(history, seed=1)
+        load.add_clients(8, store)
+        load.run()
+
+What the store is, a `Store` says: how to connect to a node of it, what is sent for a call, and what its answer says. The rest is here:
+each client makes its calls one after another, and each call has its line before its request and its reply's line after the whole answer.
+A call whose answer doesn't come, or says nothing, is lost; then the client leaves the node for the next one.
+"""
+
+import contextlib
+import enum
+import random
+import threading
+import time
+from dataclasses import dataclass
+from typing import (
+    Callable,
+    Dict,
+    Iterator,
+    List,
+    Mapping,
+    Optional,
+    Protocol,
+    Sequence,
+    Type,
+    TypeVar,
+    cast,
+    runtime_checkable,
+)
+
+from casbench_recording.history.format import Operation, Pair
+from casbench_recording.history.writing import Call, CallWriter, Ended
+from casbench_recording.history.writing import NoOutcome as NoOutcome
+
+WRITES = ("index", "create", "delete", "index-if", "delete-if")
+
+MIXTURE = {"get": 6, "index": 2, "create": 1, "delete": 1, "index-if": 6, "delete-if": 1}
+"""How often each kind of turn is drawn. `index-if` and `delete-if` read the document and write it under the pair that was read. `bulk`, for
+a store that takes such requests, makes several writes by one; their conditions are the pairs that the client received last."""
+
+ANY_NUMBER = 2**62
+"""The calls of a client that goes on until the history is full, or the load is over."""
+
+RECONNECTS = 0.02
+"""After how many seconds a client tries the next node, if the one before couldn't be reached."""
+
+
+class Unreachable(Exception):
+    """No connection to a node could be made, so nothing was asked."""
+
+
+@contextlib.contextmanager
+def lost_by(*faults: Type[Exception]) -> Iterator[None]:
+    """Raises faults of these kinds as NoOutcome, so that the call is lost."""
+    try:
+        yield
+    except faults as fault:
+        raise NoOutcome(str(fault)) from fault
+
+
+class Kind(enum.Enum):
+    """What a store may say of an operation, as the table of replies in docs/RECORDING.md has it."""
+
+    FOUND = "found"
+    MISSING = "missing"
+    CREATED = "created"
+    UPDATED = "updated"
+    DELETED = "deleted"
+    NOT_FOUND = "not found"
+    CONFLICT = "conflict"
+
+
+@dataclass(frozen=True)
+class Outcome:
+    """What an answer says of a call. `pair` is that of the change, or of the version that was found with the value `k`. `seen` is the pair
+    of the last change that the answer had seen, if the store says so: a witness needs it of gets and conflicts."""
+
+    kind: Kind
+    pair: Optional[Pair] = None
+    k: Optional[int] = None
+    seen: Optional[Pair] = None
+
+    def write(self, call: Call) -> None:
+        """Writes the reply to a call."""
+        if self.kind is Kind.MISSING:
+            call.missing()
+        elif self.kind is Kind.CONFLICT:
+            call.conflict()
+        elif self.pair is None:
+            raise NoOutcome(f"{self.kind.value}, and no pair")
+        elif self.kind is Kind.FOUND:
+            call.found(self.pair, self.k if self.k is not None else 0)
+        elif self.kind in (Kind.CREATED, Kind.UPDATED):
+            call.indexed(self.pair, created=self.kind is Kind.CREATED)
+        else:
+            call.deleted(self.pair, found=self.kind is Kind.DELETED)
+
+    @property
+    def there(self) -> Optional[Pair]:
+        """The pair of the document as this leaves it, if it is there."""
+        return self.pair if self.kind in (Kind.FOUND, Kind.CREATED, Kind.UPDATED) else None
+
+
+class CallResult(Protocol):
+    """What an answer says of a call: an `Outcome`, or the reply as it came."""
+
+    @property
+    def seen(self) -> Optional[Pair]:
+        """The pair of the last change that the answer had seen, if the store says so."""
+
+    @property
+    def there(self) -> Optional[Pair]:
+        """The pair of the document as this leaves it, if it is there."""
+
+    def write(self, call: Call) -> None:
+        """Writes the reply to a call. Raises NoOutcome if it is none."""
+
+
+class Session(Protocol):
+    """A connection of one client to one node. It sends each request once and tries nothing again."""
+
+    @property
+    def is_open(self) -> bool:
+        """Whether it can be asked; one that the node has closed is left before the next call."""
+
+    def send(self, call: Call) -> None:
+        """Sends what the call asks. Raises NoOutcome if it may not have been sent whole."""
+
+    def outcome(self, call: Call) -> CallResult:
+        """Waits for the answer to what was sent, as long as the store's deadline for a call, and returns what it says. Raises NoOutcome."""
+
+    def close(self) -> None:
+        """Closes the connection, also if an answer is owed."""
+
+
+class BulkSession(Session, Protocol):
+    """A session that takes several writes by one request."""
+
+    def send_all(self, calls: Sequence[Call]) -> None:
+        """Sends what the calls ask. Raises NoOutcome."""
+
+    def outcomes(self, calls: Sequence[Call]) -> Sequence[Optional[CallResult]]:
+        """Waits for the answer, and returns what it says of each call, or None where it says nothing. Raises NoOutcome."""
+
+
+class Store(Protocol):
+    """A store of documents with versions."""
+
+    nodes: int
+
+    def connect(self, node: int) -> Session:
+        """A connection to a node, counted from 0. Raises Unreachable."""
+
+
+@runtime_checkable
+class NamedStore(Store, Protocol):
+    """A store whose nodes have names, which the lines of calls have."""
+
+    names: Sequence[str]
+
+
+class Draw:
+    """What is drawn from a seed. `random()` alone is called: its numbers are the same in every release of Python."""
+
+    def __init__(self, seed: str) -> None:
+        self.random = random.Random(seed).random
+
+    def below(self, count: int) -> int:
+        """A number from 0 up to the one before count."""
+        return int(self.random() * count)
+
+    def one_of(self, weights: Mapping[str, int]) -> str:
+        """One of the names, each as often as its weight says."""
+        left = self.below(sum(weights.values()))
+        for name, weight in weights.items():
+            if left < weight:
+                return name
+            left -= weight
+        raise ValueError("no weights")
+
+    def between(self, least: float, most: float) -> float:
+        """A number between these bounds."""
+        return least + self.random() * (most - least)
+
+
+@dataclass(frozen=True)
+class Habits:
+    """What a client does: how often which turn, on how many documents, how many of a thousand answers it drops, whether it stays with its
+    node after a fault, how many calls it makes at most, and how many writes a bulk request of it has."""
+
+    mixture: Mapping[str, int]
+    documents: int = 8
+    dropped: int = 0
+    is_bound: bool = False
+    calls: int = ANY_NUMBER
+    bulk_items: int = 4
+
+    @property
+    def writes(self) -> Mapping[str, int]:
+        """How often each kind of write is drawn in a bulk request."""
+        weights = {it: self.mixture.get(it, 0) for it in WRITES}
+        return weights if any(weights.values()) else {"index": 1}
+
+
+Received = TypeVar("Received")
+
+
+class Client(threading.Thread):
+    """One client: it makes its calls one after another, and records each."""
+
+    def __init__(self, load: "Load", store: Store, node: int, habits: Habits, draw: Draw) -> None:
+        super().__init__(daemon=True)
+        self.load, self.store, self.node, self.habits, self.draw = load, store, node % store.nodes, habits, draw
+        self.session: Optional[Session] = None
+        self.names = store.names if isinstance(store, NamedStore) else [""] * store.nodes
+        self.calls = 0
+        # of each document the pair that the client received last
+        self.known: Dict[str, Pair] = {}
+
+    def run(self) -> None:
+        """Makes calls until no more are to be made."""
+        try:
+            while True:
+                self.take_turn()
+        except Ended:
+            pass
+        except BaseException as fault:
+            # (it is raised again where the load is run)
+            self.load.faults.append(fault)
+        finally:
+            self.leave()
+
+    def take_turn(self) -> None:
+        """Makes the calls of one turn."""
+        self.load.wait_if_held(self)
+        document, kind = self.document(), self.draw.one_of(self.habits.mixture)
+        if kind == "bulk":
+            drawn = [(self.document(), self.draw.one_of(self.habits.writes)) for _ in range(self.habits.bulk_items)]
+            self.make_bulk([operation_of(it, id, self.known.get(id)) for id, it in drawn])
+        else:
+            pair = self.make(Operation("get", document)) if kind.endswith("-if") else None
+            self.make(operation_of(kind, document, pair))
+
+    def document(self) -> str:
+        """The id of some document."""
+        return f"d{self.draw.below(self.habits.documents)}"
+
+    def make(self, it: Operation) -> Optional[Pair]:
+        """Makes one call; returns the pair of the document, if it is there then."""
+        session = self.connected()
+        (call,) = self.begin([it])
+        with call:
+            try:
+                session.send(call)
+                told = self.received(lambda: session.outcome(call))
+                told.write(call)
+            except NoOutcome:
+                self.leave()
+                return None
+        return self.learn(call, told)
+
+    def make_bulk(self, operations: Sequence[Operation]) -> None:
+        """Makes one bulk request. Its items are calls of their own, all made before any is answered."""
+        session = cast(BulkSession, self.connected())
+        calls = self.begin(operations[: min(self.left, self.load.history.room)])
+        outcomes: Sequence[Optional[CallResult]] = [None] * len(calls)
+        try:
+            session.send_all(calls)
+            outcomes = self.received(lambda: session.outcomes(calls))
+        except NoOutcome:
+            self.leave()
+        for call, told in zip(calls, outcomes):
+            with call, contextlib.suppress(NoOutcome):
+                if told is not None:
+                    told.write(call)
+                    self.learn(call, told)
+
+    def begin(self, operations: Sequence[Operation]) -> List[Call]:
+        """Writes the lines of calls. The value of a write is the number of its call."""
+        name = self.names[self.node]
+        calls = self.load.history.write_all([it._replace(node=name) for it in operations] if name else operations)
+        self.calls += len(calls)
+        return calls
+
+    def received(self, receive: Callable[[], Received]) -> Received:
+        """The answer, unless it is dropped: the connection breaks before it came, or when it is there."""
+        if self.draw.below(1000) >= self.habits.dropped:
+            return receive()
+        if self.draw.below(2):
+            receive()
+        raise NoOutcome("dropped")
+
+    def learn(self, call: Call, told: CallResult) -> Optional[Pair]:
+        """Keeps what an answer says; returns the pair of the document, if it is there then."""
+        if told.seen is not None:
+            self.load.seen[call.number] = told.seen
+        there = told.there
+        if there is None:
+            self.known.pop(call.operation.id, None)
+        else:
+            self.known[call.operation.id] = there
+        return there
+
+    @property
+    def left(self) -> int:
+        """How many more calls the client makes."""
+        return self.habits.calls - self.calls
+
+    def connected(self) -> Session:
+        """The connection, made before the call is recorded. Raises Ended if no more calls are to be made."""
+        while self.left > 0 and not self.load.is_over():
+            if self.session is not None and self.session.is_open:
+                return self.session
+            self.disconnect()
+            try:
+                self.session = self.store.connect(self.node)
+            except Unreachable:
+                self.leave()
+                time.sleep(RECONNECTS)
+        raise Ended
+
+    def disconnect(self) -> None:
+        """Closes the connection, if there is one."""
+        if self.session is not None:
+            self.session.close()
+            self.session = None
+
+    def leave(self) -> None:
+        """Closes the connection, and goes on to the next node."""
+        self.disconnect()
+        if not self.habits.is_bound:
+            self.node = (self.node + 1) % self.store.nodes
+
+
+def operation_of(kind: str, id: str, pair: Optional[Pair]) -> Operation:
+    """The call of a kind. A write under a condition is, if no pair is known, one that needs nothing to be there."""
+    op, _, is_swap = kind.partition("-")
+    if not is_swap:
+        return Operation(op, id)
+    return Operation("create" if pair is None and op == "index" else op, id, None, pair)
+
+
+class Load:
+    """Clients of one history. It notes by the number of each answered call what its answer had seen, for a witness."""
+
+    def __init__(self, history: CallWriter, seed: int, has_ended: Callable[[], bool] = lambda: False) -> None:
+        self.history, self.seed, self.has_ended = history, seed, has_ended
+        self.draw = Draw(f"{seed}/disturbance")
+        self.clients: List[Client] = []
+        self.faults: List[BaseException] = []
+        self.seen: Dict[int, Pair] = {}
+        self.held: Dict[Client, threading.Event] = {}
+
+    def add_clients(self, count: int, store: Store, habits: Habits = Habits(MIXTURE), node: Optional[int] = None) -> List[Client]:
+        """Adds clients; each begins with the node that is named, else with another one."""
+        first = len(self.clients)
+        added = [Client(self, store, it if node is None else node, habits, Draw(f"{self.seed}/{it}")) for it in range(first, first + count)]
+        self.clients += added
+        return added
+
+    def is_over(self) -> bool:
+        """Whether no more calls are made."""
+        return bool(self.faults) or not self.history.room or self.has_ended()
+
+    def run(self, disturb: Callable[[], None] = lambda: None, calls_between: int = 600) -> None:
+        """Runs the clients until all have made their calls, and disturbs the store each time there are so many more. If it is interrupted it
+        doesn't wait for calls that are open."""
+        for client in self.clients:
+            client.start()
+        try:
+            while self.wait_for(self.history.calls + calls_between):
+                disturb()
+        except Exception as fault:
+            self.faults.append(fault)
+        for client in self.clients:
+            self.release([client])
+            client.join()
+        if self.faults:
+            raise self.faults[0]
+
+    def wait_for(self, calls: int) -> bool:
+        """Waits until there are so many calls; returns whether more are made."""
+        while self.history.calls < calls and self.is_running():
+            time.sleep(0.005)
+        return self.is_running()
+
+    def wait_for_each(self, clients: List[Client], most: float) -> None:
+        """Waits until each of these clients has made one more call, so many seconds at most."""
+        before, last = [it.calls for it in clients], time.monotonic() + most
+        while any(it.calls == calls for it, calls in zip(clients, before)) and time.monotonic() < last and self.is_running():
+            time.sleep(0.005)
+
+    def is_running(self) -> bool:
+        """Whether a client makes calls."""
+        return not self.is_over() and any(it.is_alive() for it in self.clients)
+
+    def wait(self, least: float, most: float) -> None:
+        """Waits some seconds, drawn between these bounds."""
+        time.sleep(self.draw.between(least, most))
+
+    def hold(self, clients: List[Client]) -> None:
+        """Has clients make no further turn until they are released."""
+        for it in clients:
+            self.held.setdefault(it, threading.Event())
+
+    def release(self, clients: List[Client]) -> None:
+        """Has clients go on."""
+        for it in clients:
+            event = self.held.pop(it, None)
+            if event is not None:
+                event.set()
+
+    def wait_if_held(self, client: Client) -> None:
+        """Waits while this client is held."""
+        event = self.held.get(client)
+        if event is not None:
+            event.wait()

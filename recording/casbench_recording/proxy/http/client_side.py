@@ -1,0 +1,234 @@
+"""What a client asks: its requests are passed on as they came, behind the lines of their calls."""
+
+from typing import Iterator, Optional
+
+from casbench_recording.http1 import (
+    LONGEST_REMEMBERED,
+    Request,
+    decoded,
+    head_end,
+    passed_head,
+    read_request,
+    remembered_request,
+    without_empty_lines,
+)
+from casbench_recording.proxy.json_bodies import MOST_READ
+from casbench_recording.proxy.recording.index_discovery import IndexDiscovery
+from casbench_recording.proxy.recording.judge import Passed
+from casbench_recording.proxy.recording.recorded_requests import (
+    IndexMakingRequest,
+    RecordedBulkRequest,
+    Requester,
+)
+from casbench_recording.proxy.routing.routes import BULK, CALL, NODES, PASS, READS, SWEEP, RouteKind
+
+from .client_connection import ClientConnection
+from .exchange import Coming, ComingInPieces, Exchange
+
+FEW_PARTS = 16
+"""Of how many parts of a request it isn't counted how much memory they take."""
+
+MAKERS = (CALL, BULK, RouteKind.NEW, RouteKind.UPDATE, RouteKind.UNJUDGED, RouteKind.MAKE)
+"""Requests that may make the index, unless they are gets."""
+
+HEADS = 4
+"""How many times a long head is kept at most: as it is, its target, and the words that are read there."""
+
+CONTINUE = b"HTTP/1.1 100 Continue\r\n\r\n"
+
+
+class ClientSide(ClientConnection):
+    """A client's connection, from which requests are taken one by one."""
+
+    def has_step(self) -> bool:
+        """Does the next step with what the client sent; tells whether there may be another one."""
+        if self.is_working:
+            return False
+        exchange = self.exchange
+        if exchange is None:
+            return self.has_request()
+        if exchange.is_sent or exchange.coming is None:
+            return False
+        if isinstance(exchange.coming, ComingInPieces):
+            self.is_working = True
+            self.proxy.work(self.take_items(exchange, exchange.coming), self.worked)
+            return not self.is_working and exchange.is_sent
+        self.take_piece(exchange, exchange.coming)
+        return exchange.is_sent
+
+    def worked(self) -> None:
+        """Goes on after something was done for the request at hand."""
+        self.is_working = False
+        if not self.stream.is_closing and (self.data or self.stream.is_at_end):
+            self.proxy.loop.soon(self.go_on)
+
+    def has_request(self) -> bool:
+        """Takes the head of a request, and all of it where it came in one piece; tells whether there may be another step."""
+        data = self.data
+        if data.startswith(b"\r\n"):
+            data = self.data = without_empty_lines(data)
+        end = head_end(data)
+        if not end:
+            return False
+        request = (remembered_request if end <= LONGEST_REMEMBERED else read_request)(data[:end])
+        node = self.node
+        if node.sent_host or request.fields.offers_upgrade:
+            head, rest = passed_head(data[:end], node.sent_host), data[end:]
+            data, end = head + rest, len(head)
+        judge, length = self.proxy.judge, request.length
+        route = judge.route(request.method, request.target, node.paths)
+        exchange = self.exchange = Exchange(request, route)
+        if end > LONGEST_REMEMBERED:
+            exchange.weight = HEADS * end
+        is_bulk = route.kind is BULK
+        if is_bulk and self.proxy.discovery is not None and length is not None and end + length <= MOST_READ and not request.fields.encoding:
+            # (it may make the index, and is read as a whole)
+            is_bulk = False
+        if length is not None and len(data) >= end + length and not (is_bulk and request.fields.encoding):
+            whole = end + length
+            self.data = data[whole:]
+            self.ask_and_send(exchange, data[end:whole], data[:whole], True)
+            return False
+        if is_bulk:
+            exchange.coming = ComingInPieces(data[:end], request.body(), request.fields.encoding)
+            exchange.recorded = judge.ask_in_pieces(route, self.requester_of(request))
+        else:
+            exchange.coming = Coming(data[:end], request.body(), route is not PASS)
+        self.data = data[end:]
+        return True
+
+    def requester_of(self, request: Request) -> Requester:
+        """Who asks, by a request's own word or by the address, and the node."""
+        client = request.fields.opaque_id
+        return Requester(client, self.node.name) if client else self.default_requester
+
+    def ask_and_send(self, exchange: Exchange, content: Optional[bytes], data: bytes, is_sent: bool, has_turn: bool = False) -> None:
+        """Has the calls of a request written, and passes it on. The content is None where too much of it came to be read."""
+        route, request, proxy = exchange.route, exchange.request, self.proxy
+        if route is not PASS:
+            if proxy.discovery is not None and not has_turn and proxy.discovery.concerns(route, content):
+                self.wait_for_turn(proxy.discovery, exchange, content, data, is_sent)
+                return
+            if route.kind is SWEEP:
+                exchange.recorded = proxy.judge.begin_sweep(route)
+                self.is_working = True
+                proxy.work(proxy.judge.sweeping(route), lambda: self.swept(exchange, data, is_sent))
+                return
+            if route is NODES:
+                proxy.warn_of_nodes(request)
+            if content and (request.fields.encoding or len(content) > MOST_READ):
+                content = decoded(content, request.fields.encoding, MOST_READ)
+            requester = self.requester_of(request) if request.fields.opaque_id else self.default_requester
+            recorded = exchange.recorded = proxy.judge.ask(route, request.method, content, requester)
+            if recorded is not None and len(recorded.parts) > FEW_PARTS:
+                self.account()
+        self.send(exchange, data, is_sent)
+
+    def wait_for_turn(self, discovery: IndexDiscovery, exchange: Exchange, content: Optional[bytes], data: bytes, is_sent: bool) -> None:
+        """Holds back a request for an index that isn't there yet until it has its turn."""
+        self.is_working = True
+        exchange.weight += len(data)
+        self.account()
+        discovery.queue.wait_for(lambda: self.has_turn(discovery, exchange, content, data, is_sent))
+
+    def has_turn(self, discovery: IndexDiscovery, exchange: Exchange, content: Optional[bytes], data: bytes, is_sent: bool) -> None:
+        """Passes on a request for an index that isn't there yet. One that may make it keeps the turn until it was answered."""
+        self.is_working = False
+        exchange.weight -= len(data)
+        route, request = exchange.route, exchange.request
+        if self.stream.is_closing:
+            discovery.queue.end()
+            return
+        if discovery.is_over or route.kind not in MAKERS or route.op == "get":
+            discovery.queue.end()
+            self.ask_and_send(exchange, content, data, is_sent, True)
+        else:
+            plain = decoded(content, request.fields.encoding, MOST_READ) if content else content
+            making = exchange.recorded = IndexMakingRequest(route, request.method, plain, self.requester_of(request))
+            discovery.makes(making, lambda: self.lose(exchange))
+            self.send(exchange, data, is_sent)
+        if not self.is_working:
+            self.worked()
+
+    def swept(self, exchange: Exchange, data: bytes, is_sent: bool) -> None:
+        """Passes on a request that may change every document, after none that was there is judged."""
+        if not self.stream.is_closing:
+            self.send(exchange, data, is_sent)
+        self.worked()
+
+    def send(self, exchange: Exchange, data: bytes, is_sent: bool) -> None:
+        """Passes on what came of a request, perhaps the last of it."""
+        assert self.cluster is not None
+        exchange.is_sent = is_sent
+        discovery = self.proxy.discovery
+        if discovery is not None and exchange.request.method not in READS:
+            discovery.passes(exchange, Passed(exchange.request.method, exchange.request.target, self.node.paths, exchange.route))
+        self.cluster.stream.write(data)
+
+    def take_piece(self, exchange: Exchange, coming: Coming) -> None:
+        """Takes what came of a request, holds it back where it has to be read, and passes it on."""
+        body = coming.body
+        count = body.take(self.data)
+        if count:
+            coming.held += self.data[:count]
+            self.data = self.data[count:]
+        if coming.is_read:
+            if not body.is_done and len(coming.held) <= MOST_READ and self.proxy.has_room():
+                if exchange.request.fields.expects and not exchange.was_continued:
+                    exchange.was_continued = True
+                    self.stream.write(CONTINUE)
+                return
+            coming.is_read = body.is_kept = False
+            content = body.content()
+            self.ask_and_send(exchange, content if body.is_done else None, coming.taken(), body.is_done)
+        else:
+            self.send(exchange, coming.taken(), body.is_done)
+
+    def take_items(self, exchange: Exchange, coming: ComingInPieces) -> Iterator[None]:
+        """Takes what came of a bulk request, in steps, and passes it on as far as the calls of its items are written."""
+        judge, body, recorded = self.proxy.judge, coming.body, exchange.recorded
+        assert isinstance(recorded, RecordedBulkRequest)
+        count = body.take(self.data)
+        raw, self.data = self.data[:count], self.data[count:]
+        for number, plain in enumerate(coming.unpacking.slices(body.content(), body.is_done)):
+            if number:
+                yield
+                if self.stream.is_closing:
+                    return
+            judge.take_items(recorded, plain, False, self.proxy.has_room())
+            coming.length += len(plain or b"")
+            self.account()
+            if judge.has_ended:
+                break
+        coming.add(raw)
+        if body.is_done:
+            judge.take_items(recorded, b"", True)
+            exchange.recorded = recorded if recorded.has_calls else None
+        if not self.stream.is_closing:
+            is_all = body.is_done or judge.has_ended
+            self.send(exchange, coming.ready(recorded.items.end, is_all), body.is_done)
+        if judge.has_ended:
+            exchange.coming, exchange.recorded = Coming(b"", body, False), None
+
+    def answered(self) -> None:
+        """Goes on with the next request, after an answer was passed on."""
+        self.exchange = None
+        if self.data or self.stream.is_at_end:
+            self.go_on()
+
+    def give_up(self) -> None:
+        """Writes the calls that are open as lost."""
+        exchange, discovery = self.exchange, self.proxy.discovery
+        if exchange is None or exchange.is_answered:
+            return
+        self.lose(exchange)
+        if discovery is not None:
+            discovery.never_answered(exchange)
+
+    def lose(self, exchange: Exchange) -> None:
+        """Writes the calls of a request as lost. If it might have made the index others go on."""
+        recorded, exchange.recorded = exchange.recorded, None
+        if recorded is not None:
+            self.proxy.judge.lost(recorded)
+        if isinstance(recorded, IndexMakingRequest) and self.proxy.discovery is not None:
+            self.proxy.discovery.has_made(False)

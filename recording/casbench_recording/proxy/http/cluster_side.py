@@ -1,0 +1,242 @@
+"""The connection to the cluster that a client's has: answers are passed on as they came, behind the lines of what they say."""
+
+import socket
+from typing import TYPE_CHECKING, Iterator, Optional, Union
+
+from casbench_recording.http1 import (
+    LONGEST_REMEMBERED,
+    BadMessage,
+    Body,
+    Response,
+    decoded,
+    head_end,
+    read_response,
+    remembered_response,
+)
+from casbench_recording.proxy.json_bodies import MOST_READ
+from casbench_recording.proxy.recording.answer_recorder import MOST_AT_ONCE
+from casbench_recording.proxy.recording.recorded_requests import IndexMakingRequest
+from casbench_recording.proxy.routing.routes import BULK, READS, RouteKind
+
+from .exchange import Exchange
+from .loop import Stream
+from .refusal import refusal
+from .tls import TlsStream
+
+if TYPE_CHECKING:
+    from .client_connection import ClientConnection
+
+OF_OTHERS = (RouteKind.PASS, BULK, RouteKind.CHECK_BODY)
+"""Requests that aren't for the index, by the names of it that are known, unless their bodies say so."""
+
+MOST_OF_ITEMS = 32 * 1024 * 1024
+"""The most bytes of an answer to a bulk request that are held back to be read, some of its items at a time."""
+
+
+class ClusterSide:
+    """The connection to the cluster that a client's has."""
+
+    stream: Union[Stream, TlsStream]
+
+    def __init__(self, client: "ClientConnection", connection: socket.socket) -> None:
+        self.client = client
+        self.data = b""
+        loop, cluster = client.proxy.loop, client.node.cluster
+        if cluster.trust is None:
+            self.stream = Stream(loop, connection, self)
+            loop.soon(lambda: client.has_cluster(None))
+        else:
+            self.stream = TlsStream(loop, connection, self, cluster.trust, str(cluster.url.hostname), client.has_cluster)
+
+    def received(self, data: bytes) -> None:
+        """Takes what the cluster sent, and passes it on."""
+        client = self.client
+        client.active_at = client.proxy.loop.now
+        self.data = self.data + data if self.data else data
+        try:
+            while self.data and self.has_step():
+                pass
+        except BadMessage as fault:
+            self.fail(f"the answer can't be read: {fault}")
+        if self.data or client.held or client.exchange is not None and client.exchange.body is not None:
+            client.account()
+
+    def has_step(self) -> bool:
+        """Does the next step with what the cluster sent; tells whether there may be another one."""
+        client = self.client
+        exchange = client.exchange
+        if exchange is None or exchange.is_answered:
+            self.fail("an answer came to no request")
+            return False
+        if exchange.response is None:
+            return self.has_head(exchange)
+        assert exchange.body is not None
+        self.take_piece(exchange, exchange.response, exchange.body)
+        return True
+
+    def has_head(self, exchange: Exchange) -> bool:
+        """Takes the head of an answer, and all of it where it came in one piece; tells whether there may be another step."""
+        data = self.data
+        end = head_end(data)
+        if not end:
+            return False
+        response = (remembered_response if end <= LONGEST_REMEMBERED else read_response)(data[:end])
+        method = exchange.request.method
+        if response.status < 200:
+            self.data = data[end:]
+            self.go_on(exchange, response, data[:end])
+        elif len(data) - end == response.length_for(method):
+            self.data, exchange.answer = b"", data
+            self.finish(exchange, response, data[end:])
+        else:
+            self.data = data[end:]
+            exchange.response, exchange.body = response, response.body(method)
+            exchange.body.is_kept = exchange.recorded is not None
+            exchange.answer = bytearray(data[:end])
+            if exchange.body.is_done:
+                self.finish(exchange, response, b"")
+        return True
+
+    def go_on(self, exchange: Exchange, response: Response, head: bytes) -> None:
+        """Passes on by itself what goes before an answer."""
+        if response.status == 101:
+            raise BadMessage("it goes on in another protocol, which nobody asked for")
+        if not exchange.was_continued or response.status != 100:
+            self.client.stream.write(head)
+
+    def take_piece(self, exchange: Exchange, response: Response, body: Body) -> None:
+        """Takes what came of the answer. That to calls is held back until their replies are written."""
+        count = body.take(self.data)
+        exchange.answer += self.data[:count]
+        self.data = self.data[count:]
+        if body.is_done:
+            self.finish(exchange, response, body.content())
+            return
+        most = MOST_OF_ITEMS if exchange.route.kind is BULK else MOST_READ
+        if exchange.recorded is None or len(exchange.answer) > most or not self.client.proxy.has_room():
+            self.give_up_reply(exchange, body)
+            self.pass_on(exchange)
+
+    def give_up_reply(self, exchange: Exchange, body: Body) -> None:
+        """Writes the calls as lost whose answer can't be held back."""
+        self.client.lose(exchange)
+        body.is_kept = False
+        body.kept.clear()
+
+    def pass_on(self, exchange: Exchange) -> None:
+        """Passes on what came of the answer."""
+        exchange.has_begun = True
+        answer, exchange.answer = exchange.answer, b""
+        self.client.stream.write(answer)
+
+    def finish(self, exchange: Exchange, response: Response, content: bytes) -> None:
+        """Writes what a whole answer says of calls, in steps if it says much."""
+        recorded = exchange.recorded
+        exchange.is_answered = True
+        if recorded is None:
+            self.discover_index(exchange)
+            return
+        exchange.recorded = None
+        fields, proxy = response.fields, self.client.proxy
+        plain: Optional[bytes] = content
+        if fields.encoding or len(content) > MOST_READ:
+            plain = decoded(content, fields.encoding, MOST_OF_ITEMS if recorded.kind is BULK else MOST_READ)
+        if isinstance(recorded, IndexMakingRequest):
+            self.discover_made_index(exchange, recorded, response, plain)
+        elif len(recorded.parts) <= MOST_AT_ONCE:
+            proxy.judge.answered(recorded, response.status, plain, fields.length)
+            (self.deliver if proxy.discovery is None else self.discover_index)(exchange)
+        else:
+            self.work(proxy.judge.answering(recorded, response.status, plain), exchange)
+
+    def work(self, steps: Iterator[None], exchange: Exchange) -> None:
+        """Does what takes a while, in steps, and then goes on with the answer. Nothing more is taken meanwhile."""
+        self.client.is_working = True
+        self.stream.pause_reading()
+
+        def go_on() -> None:
+            self.client.is_working = False
+            self.client.resume_writing()
+            self.discover_index(exchange)
+
+        self.client.proxy.work(steps, go_on)
+
+    def discover_made_index(self, exchange: Exchange, making: IndexMakingRequest, response: Response, content: Optional[bytes]) -> None:
+        """Has the index looked at that a request may have made; then its call and its reply are written, and others go on."""
+        proxy = self.client.proxy
+        discovery = proxy.discovery
+        assert discovery is not None
+        self.client.is_working = True
+        self.stream.pause_reading()
+
+        def go_on() -> None:
+            discovery.has_made(proxy.judge.made(making, response.status, content, response.fields.length))
+            self.found(exchange)
+
+        discovery.answered(exchange, go_on, True)
+
+    def discover_index(self, exchange: Exchange) -> None:
+        """Has the index looked for, if it wasn't there and the request may have made it; then passes the answer on."""
+        discovery = self.client.proxy.discovery
+        if discovery is None or exchange.request.method in READS:
+            self.deliver(exchange)
+            return
+        self.client.is_working = True
+        self.stream.pause_reading()
+        discovery.answered(exchange, lambda: self.found(exchange), exchange.route.kind not in OF_OTHERS)
+
+    def found(self, exchange: Exchange) -> None:
+        """Goes on after the index was looked for."""
+        self.client.is_working = False
+        self.client.resume_writing()
+        self.deliver(exchange)
+
+    def deliver(self, exchange: Exchange) -> None:
+        """Passes on an answer, or the last of it, and goes on with the next request."""
+        client = self.client
+        self.pass_on(exchange)
+        if self.data:
+            self.fail("more than an answer came")
+        elif exchange.is_sent and not self.stream.is_closing:
+            client.answered()
+        else:
+            # (the cluster is gone, or didn't want the rest of the request, and the client's next one can't be distinguished from it)
+            client.close()
+        if client.held:
+            client.account()
+
+    def fail(self, why: str) -> None:
+        """Gives up: what was asked is lost, and the client is told, unless it has a part of an answer."""
+        client = self.client
+        client.give_up()
+        is_told = client.exchange is not None and not client.exchange.has_begun
+        client.exchange = None
+        client.close(refusal("502 Bad Gateway", why) if is_told else b"")
+
+    def pause_writing(self) -> None:
+        """Takes no more from the client while the cluster is slow to take it."""
+        self.client.is_cluster_full = True
+        self.client.update_flow()
+
+    def resume_writing(self) -> None:
+        """Takes from the client again."""
+        self.client.is_cluster_full = False
+        self.client.update_flow()
+
+    def ended(self) -> None:
+        """Hears that the cluster sends no more."""
+        self.stream.close()
+
+    def connection_lost(self) -> None:
+        """Ends the client's connection too: with the end of an answer that ends so, or with word that there is none."""
+        client = self.client
+        exchange = client.exchange
+        if client.stream.is_closing or exchange is not None and exchange.is_answered:
+            return
+        if exchange is not None and exchange.body is not None and exchange.body.at_close() and self.stream.is_at_end:
+            assert exchange.response is not None
+            self.finish(exchange, exchange.response, exchange.body.content())
+        elif exchange is not None:
+            self.fail("the cluster closed the connection and gave no whole answer")
+        else:
+            client.close()

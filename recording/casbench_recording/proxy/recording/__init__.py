@@ -1,0 +1,1 @@
+"""What is written for a request and its answer: calls, replies, and the end of a recording that can't go on."""

@@ -1,0 +1,153 @@
+"""What a recorder that watches writes down: which calls a request makes, what its answer says of them, and what it can't tell.
+
+Nothing is guessed. A call whose reply can't be determined exactly is lost. A document of which some write can't be determined is judged
+no longer: its open calls are lost, later ones aren't recorded, and a list beside the history names it. Where it can't be
+told which documents are written, the recording ends. So what was recorded stays right in each case.
+"""
+
+from typing import Callable, FrozenSet, Iterable, NamedTuple, Optional
+
+from casbench_recording.history.writing import Histories
+from casbench_recording.index_inspection import Shape
+from casbench_recording.proxy.routing.paths import AS_SENT, Paths, parts_of, path_of
+from casbench_recording.proxy.routing.routes import BULK, PASS, READS, Route, RouteKind, route_of
+from casbench_recording.proxy.state.documents import UNSURE, DocumentState
+from casbench_recording.proxy.state.judged_documents import JudgedDocuments
+from casbench_recording.proxy.state.recent_documents import MOST_KEPT
+from casbench_recording.proxy.state.unjudged_list import UnjudgedList
+
+from .answer_recorder import AnswerRecorder
+from .history_writer import HistoryWriter
+from .recorded_requests import IndexMakingRequest, RecordedRequest
+from .request_recorder import RequestRecorder
+
+
+class Passed(NamedTuple):
+    """A request that was passed on: its method, its target, how that is read, and what the request was taken for."""
+
+    method: str
+    target: bytes
+    paths: Paths
+    route: Route
+
+    @property
+    def name(self) -> str:
+        """The first part of its path, which names the index, or indexes, unless it is one of the cluster's own words."""
+        return self.paths.own(parts_of(path_of(self.target.decode("utf-8", "replace")), "replace"))[0]
+
+
+HARMLESS_KINDS = (RouteKind.PASS, RouteKind.MAKE, RouteKind.NODES)
+"""Requests that change no document."""
+
+JUDGED_BY_BODY = (BULK, RouteKind.CHECK_BODY)
+"""Requests whose bodies name what they change, which was looked for by the names that were known then."""
+
+
+class Judge:
+    """Tells what each request asks, and writes the history. One thread uses it."""
+
+    def __init__(
+        self,
+        shape: Optional[Shape],
+        name: str,
+        history: Histories,
+        unjudged: UnjudgedList,
+        first: DocumentState = DocumentState.JUDGED,
+        only: Optional[FrozenSet[str]] = None,
+        most_kept: int = MOST_KEPT,
+    ) -> None:
+        self.history = history
+        self.unjudged = unjudged
+        self.writer = HistoryWriter(history, unjudged)
+        self.documents = JudgedDocuments(self.writer, shape, name, first, only, most_kept)
+        self._is_closed = False
+        # takes what the index is once it is found
+        self.on_shape: Callable[[Shape], object] = lambda shape: None
+        # what is asked, and what is answered, by those that tell it
+        asking = RequestRecorder(self.documents)
+        self.ask, self.ask_in_pieces, self.take_items = asking.ask, asking.ask_in_pieces, asking.take_items
+        self.begin_sweep, self.sweeping = asking.begin_sweep, asking.sweeping
+        answering = AnswerRecorder(self.documents, asking)
+        self.answered, self.answering, self._lost = answering.answered, answering.answering, answering.lost
+
+    @property
+    def shape(self) -> Optional[Shape]:
+        """What the index is, or None as long as it isn't there."""
+        return self.documents.shape
+
+    @property
+    def has_ended(self) -> bool:
+        """Whether the recording is over."""
+        return self.writer.has_ended
+
+    def route(self, method: str, target: bytes, paths: Paths = AS_SENT) -> Route:
+        """What a request asks."""
+        return PASS if self.writer.has_ended else route_of(method, target, self.documents.names, paths)
+
+    def settle(self) -> None:
+        """Has the recording wait: no call has a line until `settled`, and a document that is written meanwhile isn't judged."""
+        self.documents.is_settling = True
+
+    def settled(self) -> None:
+        """Begins the recording."""
+        self.documents.settled()
+
+    def found(self, shape: Shape, passed: Iterable[Passed], gone: Iterable[Passed] = (), writes: int = 0) -> None:
+        """Takes what the index is that was not there before. If more was written to it than so many writes that are known, only what
+        is seen created is judged.
+
+        It is told which requests were passed on, and not answered when the index was looked for, and which of those never will be.
+        If one may write to the index by a name that wasn't known, the index isn't looked at yet, or never can be.
+        """
+        if any(may_have_written(it, shape) for it in gone):
+            self.end("a request that was never answered may write to the index, by a name that wasn't known")
+        elif not any(may_have_written(it, shape) for it in passed):
+            self.documents.shape, self.documents.names = shape, shape.names
+            self.documents.first = DocumentState.JUDGED if shape.is_empty or 0 < shape.changes <= writes else UNSURE
+            self.on_shape(shape)
+
+    def made(self, making: IndexMakingRequest, status: int, content: Optional[bytes], length: Optional[int]) -> bool:
+        """Writes the call of a request that was passed on alone, and what its answer says; nothing else on the index was open.
+
+        Tells whether it is known what it wrote. If there is no index, and the request was refused, it wrote nothing.
+        """
+        if self.shape is None and 400 <= status < 500:
+            return True
+        recorded = self.ask(making.route, making.method, making.content, making.requester)
+        if recorded is not None:
+            self.answered(recorded, status, content, length)
+        return self.shape is not None
+
+    def lost(self, recorded: RecordedRequest) -> None:
+        """Writes that no whole answer came."""
+        told = self.ask(recorded.route, recorded.method, recorded.content, recorded.requester) if isinstance(recorded, IndexMakingRequest) else recorded
+        if told is not None:
+            self._lost(told)
+
+    def note(self, text: str) -> None:
+        """Puts a note on the next line of each history."""
+        for history in self.history.histories:
+            history.note(text)
+
+    def end(self, why: str) -> None:
+        """Ends the recording before its time: all calls that are open are lost, and no more are written."""
+        self.writer.end(why)
+
+    def close(self) -> None:
+        """Ends the recording at its time, once. What was never seen created isn't judged."""
+        if self._is_closed:
+            return
+        self._is_closed = self.writer.has_ended = True
+        self.writer.end_histories()
+        self.documents.close()
+        self.unjudged.close(self.documents.left_out)
+
+
+def may_have_written(passed: Passed, shape: Shape) -> bool:
+    """Whether a request that was passed on may have written to the index, unknown by the name that it used."""
+    if len(shape.names.all) == 1:
+        # (the one that was known)
+        return False
+    method, target, paths, route = passed
+    was_passed_by = route.kind is RouteKind.PASS and method not in READS
+    return was_passed_by and route_of(method, target, shape.names, paths).kind not in HARMLESS_KINDS or route.kind in JUDGED_BY_BODY

@@ -1,0 +1,177 @@
+"""What a request asks, once it was read: its calls, each with how its reply is read."""
+
+import re
+from typing import Any, List, Mapping, NamedTuple, Optional, Sequence
+
+from casbench_recording.history.format import TAKES_A_CONDITION, Operation, Pair, pair_if
+from casbench_recording.history.writing import Call
+from casbench_recording.proxy.routing.routes import PARTS_OF_A_SOURCE, Route, RouteKind
+from casbench_recording.proxy.state.documents import Document
+
+from .bulk_items import BulkItems
+
+DIGITS = re.compile(r"[0-9]{1,19}")
+
+OF_A_VERSION = {"version", "version_type"}
+"""Parameters of a condition that no line has."""
+
+OF_A_CONDITION = OF_A_VERSION | {"if_seq_no", "if_primary_term"}
+"""Parameters of a condition."""
+
+HIDES_PARTS = PARTS_OF_A_SOURCE - {"_source"} | {"filter_path"}
+"""Parameters of a get whose reply may not show all of the source."""
+
+MANY_WRITES = 10**9
+"""How many changes a bulk request may make that can't be read."""
+
+WEIGHT_OF_A_PART = 512
+"""About how many bytes a part takes that has no call yet, with its words."""
+
+
+class Requester(NamedTuple):
+    """Who asks, and through which node; each is empty if it isn't known."""
+
+    client: str = ""
+    node: str = ""
+
+
+UNKNOWN_REQUESTER = Requester()
+"""Who asks if nobody says."""
+
+
+class RequestedCall:
+    """A call that a request makes, and how its reply is read."""
+
+    __slots__ = ("id", "op", "parameters", "digest", "document", "call", "requester", "sweeps", "operation", "turn")
+
+    # of a write whose id comes with the answer: who asks, and how many sweeps there had been when it was made
+    requester: "Requester"
+    sweeps: int
+    # what its line says
+    operation: Operation
+
+    def __init__(self, id: str, op: str, parameters: Mapping[str, Any], digest: Optional[int] = None) -> None:
+        # (an empty id if the answer tells it)
+        self.id = id
+        self.op = op
+        self.parameters = parameters
+        # of the source that is written, if it can be known
+        self.digest = digest
+        self.document: Optional[Document] = None
+        # the turn of a write among those of its document, 0 of a get
+        self.turn = 0
+        # its call, once the line is written
+        self.call: Optional[Call] = None
+
+    @property
+    def is_sure(self) -> bool:
+        """Whether the line of a write says all that it depends on, so that a conflict may be recorded."""
+        parameters = self.parameters
+        return OF_A_CONDITION.isdisjoint(parameters) or self.operation.condition is not None and OF_A_VERSION.isdisjoint(parameters)
+
+    @property
+    def shows_all(self) -> bool:
+        """Whether the reply to a get shows the whole source."""
+        parameters = self.parameters
+        return not parameters or parameters.get("_source", True) in (True, "true") and HIDES_PARTS.isdisjoint(parameters)
+
+
+class RequestedUpdate(RequestedCall):
+    """An update, of which the primary's node may make several attempts."""
+
+    __slots__ = ("is_handed_on", "is_alone", "before")
+
+    # whether each write before it was over and its outcome known, and the greatest pair that one was acknowledged with
+    is_alone: bool
+    before: Optional[Pair]
+
+    def __init__(self, id: str, parameters: Mapping[str, Any], is_handed_on: bool) -> None:
+        super().__init__(id, "index", parameters)
+        # whether its request is one alone, which is handed to the primary's node
+        self.is_handed_on = is_handed_on
+
+
+class RecordedRequest:
+    """A request that is passed on: its kind, its calls, or None for an item that is none of ours, and whether its answer is its end."""
+
+    __slots__ = ("kind", "parts", "is_head", "is_over_at_answer")
+
+    def __init__(self, kind: RouteKind, parts: Sequence[Optional[RequestedCall]], is_head: bool = False, is_over_at_answer: bool = True) -> None:
+        self.kind = kind
+        self.parts = parts
+        self.is_head = is_head
+        self.is_over_at_answer = is_over_at_answer
+
+    @property
+    def weight(self) -> int:
+        """About how many bytes are kept for parts that are no calls of a history."""
+        return 8 * len(self.parts)
+
+
+class IndexMakingRequest(RecordedRequest):
+    """A request that may make the index, and is passed on alone: what it asks is told once the index was looked at."""
+
+    __slots__ = ("route", "method", "content", "requester")
+
+    def __init__(self, route: Route, method: str, content: Optional[bytes], requester: Requester) -> None:
+        super().__init__(route.kind, ())
+        self.route = route
+        self.method = method
+        self.requester = requester
+        # (None where it can't be read)
+        self.content = content
+
+    @property
+    def weight(self) -> int:
+        """How many bytes are kept of it."""
+        return len(self.content or b"")
+
+    @property
+    def writes(self) -> int:
+        """How many changes of documents it makes at most."""
+        if self.kind is RouteKind.BULK:
+            return MANY_WRITES if self.content is None else self.content.count(b"\n") + 1
+        return int(self.kind is not RouteKind.MAKE)
+
+
+class RecordedBulkRequest(RecordedRequest):
+    """A bulk request, whose items are read as they come."""
+
+    __slots__ = ("items", "parameters", "index", "requester", "unnamed")
+
+    parts: List[Optional[RequestedCall]]
+
+    def __init__(self, parameters: Mapping[str, str], index: str, requester: Requester, longest: int) -> None:
+        super().__init__(RouteKind.BULK, [])
+        self.items = BulkItems(longest)
+        self.parameters = parameters
+        self.requester = requester
+        # the index that the path names
+        self.index = index
+        # how many parts are kept whose ids the answer tells
+        self.unnamed = 0
+
+    def add(self, parts: Sequence[Optional[RequestedCall]], has_room: bool) -> None:
+        """Keeps, of parts whose calls are written, what the answer may tell something of; of those without an id only if there is room."""
+        for it in parts:
+            is_unnamed = it is not None and not it.id and has_room
+            self.unnamed += is_unnamed
+            self.parts.append(it if it is not None and (it.call is not None or is_unnamed) else None)
+
+    @property
+    def weight(self) -> int:
+        """The same, with those whose ids the answer tells."""
+        return super().weight + WEIGHT_OF_A_PART * self.unnamed
+
+    @property
+    def has_calls(self) -> bool:
+        """Whether an item was one of ours."""
+        return any(it is not None for it in self.parts)
+
+
+def condition_of(op: str, parameters: Mapping[str, Any]) -> Optional[Pair]:
+    """The condition that the words of a write name, if they name one."""
+    seq, term = str(parameters.get("if_seq_no")), str(parameters.get("if_primary_term"))
+    if op not in TAKES_A_CONDITION or not (DIGITS.fullmatch(seq) and DIGITS.fullmatch(term)):
+        return None
+    return pair_if(int(term), int(seq))

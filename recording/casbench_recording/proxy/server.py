@@ -1,0 +1,243 @@
+"""The proxy at work: the nodes that it serves, its clients, how much it holds for them, and the recording of what they ask."""
+
+import argparse
+import functools
+import resource
+import socket
+from dataclasses import replace
+from typing import Callable, Iterator, List, NamedTuple, Optional, Sequence, Set
+
+from casbench_recording.cluster import ClusterAccess
+from casbench_recording.console import tell_line
+from casbench_recording.default_reading import DefaultReading
+from casbench_recording.disturb import Disturbance
+from casbench_recording.history.readings import Reading, is_named
+from casbench_recording.http1 import Request
+from casbench_recording.index_inspection import Inspector, Shape
+from casbench_recording.watch.process import WatchProcess, watch_options
+
+from .http.client_connection import ClientConnection
+from .http.client_side import ClientSide
+from .http.connecting import Addresses, Connecting, Made
+from .http.loop import Listener, Loop, Stream
+from .http.refusal import refusal
+from .recording.index_discovery import IndexDiscovery
+from .recording.judge import Judge
+from .routing.paths import Paths
+from .routing.routes import shown_request
+from .state.documents import DocumentState
+
+MOST_HELD = 64 * 1024 * 1024
+"""How many bytes may wait on all connections together before no more bodies are held back to be read."""
+
+MOST_WAITING = 2 * MOST_HELD
+"""How many bytes may wait on all connections together before the one that has most of them is closed."""
+
+MOST_CLIENTS = 8192
+"""How many clients are served at once, if the system gives so many descriptors."""
+
+SPARE = 32
+"""How many descriptors are kept for all but the connections of clients."""
+
+LEAST_IDLE = 1.0
+"""For how many seconds nothing happened on a connection that is closed to make room for another one."""
+
+ADVICE = "requests are still passed on, and no longer recorded: end the proxy, check what was recorded, and record again on an empty index"
+"""What the operator does about a recording that ended early."""
+
+SECONDS_BETWEEN = 10.0
+"""How many seconds lie between two lines that tell that too many clients are there."""
+
+
+class ProxiedNode(NamedTuple):
+    """A node of the cluster: where its clients ask, where it is, its addresses and its name, which are of that, how the paths of requests
+    lead to it, and the host that stands in those that are passed on, if it isn't the clients' own."""
+
+    host: str
+    port: int
+    cluster: ClusterAccess
+    addresses: Addresses
+    name: str
+    paths: Paths
+    sent_host: bytes
+
+
+class RefusedConnection:
+    """A connection that is told that there is no room for it."""
+
+    def __init__(self, loop: Loop, connection: socket.socket) -> None:
+        self.stream = Stream(loop, connection, self)
+        self.stream.write(refusal("503 Service Unavailable", "too many clients are connected"))
+        self.stream.linger()
+
+    def received(self, data: bytes) -> None:
+        """Takes nothing."""
+
+    def ended(self) -> None:
+        """Needs to do nothing: the connection is closed."""
+
+    def pause_writing(self) -> None:
+        """Writes no more."""
+
+    def resume_writing(self) -> None:
+        """Writes no more."""
+
+    def connection_lost(self) -> None:
+        """Has nothing to end."""
+
+
+class Proxy:
+    """The proxy: its nodes, its clients, and the judge of what they ask."""
+
+    def __init__(self, setting: argparse.Namespace, nodes: Sequence[ProxiedNode], inspector: Inspector, judge: Judge) -> None:
+        self.setting = setting
+        self.nodes = nodes
+        self.inspector = inspector
+        self.judge = judge
+        self.clients: Set[ClientConnection] = set()
+        self.loop = Loop()
+        self._listeners: List[Listener] = []
+        # (None once the index was found, or the recording ended)
+        self.discovery: Optional[IndexDiscovery] = None if judge.shape is not None else IndexDiscovery(self.loop, inspector, setting.index, judge)
+        # how many bytes of messages are kept
+        self.held = 0
+        self._told_of_room = float("-inf")
+        # until when the recording waits, if the index isn't empty
+        self._settles_to = self.loop.now + setting.settle
+        self._has_warned_of_nodes = False
+        judge.writer.on_ended = self._ended
+        # which check fits, which is reported once the index is known
+        self.default_reading = DefaultReading(setting.file, judge.history, len(nodes), is_named(setting))
+        self.default_reading.on_reading = self._judged_in
+        # the watch of the recording, if there is one
+        self.watcher: Optional[WatchProcess] = None
+        judge.on_shape = self._found
+        self.loop.ticks[self._tick] = None
+
+    def begin(self) -> List[str]:
+        """Takes what is known of the index at first; the lines on it, which are reported behind the addresses."""
+        lines: List[str] = []
+        if self.judge.shape is not None:
+            self._found(self.judge.shape, lambda text: lines.append(f"casbench_recording.proxy: {text}"))
+        return lines
+
+    def _found(self, shape: Shape, tell: Callable[[str], object] = tell_line) -> None:
+        """Takes what the index is, for which check fits, and for when the recording begins: if others wrote to the index, once what they
+        asked is over."""
+        self.default_reading.take(shape, tell)
+        seconds = self._settles_to - self.loop.now
+        if not shape.is_empty and self.judge.documents.first is DocumentState.UNSURE and seconds > 0:
+            self.judge.settle()
+            tell(f"the index {shape.name} isn't empty: the recording begins in {seconds:.0f} s, and requests are passed on meanwhile (--settle)")
+
+    def plan(self) -> List[Disturbance]:
+        """The disturbances that are planned, whose times count from the beginning of the recording."""
+        waits = self.setting.settle if self.judge.documents.is_settling else 0.0
+        return [replace(it, after=it.after + waits) for it in self.setting.disturb]
+
+    def _judged_in(self, reading: Reading) -> None:
+        """Has the watch check in the reading of the recording."""
+        self.setting.reading = reading
+        if self.watcher is not None:
+            self.watcher.change(watch_options(self.setting))
+
+    def accept(self, node: ProxiedNode, connection: socket.socket) -> None:
+        """Takes a client's connection, to a node. If there are too many the one that was idle longest is closed, or this one is refused."""
+        if len(self.clients) >= self.most_clients:
+            waited = self.loop.now - LEAST_IDLE
+            idle = min((it for it in self.clients if it.exchange is None and it.active_at <= waited), key=lambda it: it.active_at, default=None)
+            if idle is None:
+                self._tell_no_room()
+                RefusedConnection(self.loop, connection)
+                return
+            idle.stream.abort()
+            self.clients.discard(idle)
+        ClientSide(self, node, connection)
+
+    @property
+    def most_clients(self) -> int:
+        """For how many clients there are descriptors."""
+        limit, _ = resource.getrlimit(resource.RLIMIT_NOFILE)
+        return max(1, min(MOST_CLIENTS, (limit - SPARE - len(self.judge.history.histories)) // 2))
+
+    def _tell_no_room(self) -> None:
+        """Tells the operator, now and then, that clients are refused."""
+        if self.loop.now >= self._told_of_room + SECONDS_BETWEEN:
+            self._told_of_room = self.loop.now
+            tell_line(f"{len(self.clients)} clients are connected, and more are answered with status 503")
+
+    def warn_of_nodes(self, request: Request) -> None:
+        """Warns the operator, once, that a client asks where the nodes are, and may then ask them past the proxy."""
+        if not self._has_warned_of_nodes:
+            self._has_warned_of_nodes = True
+            request_line = shown_request(request.method, request.target.partition(b"?")[0].decode("latin-1"))
+            tell_line(f"a client asks where the nodes are ({request_line}): what it asks them itself isn't recorded, so turn sniffing off")
+
+    def connect(self, node: ProxiedNode, made: Made) -> Connecting:
+        """Makes a connection to a node of the cluster."""
+        return Connecting(self.loop, node.addresses, made)
+
+    def work(self, steps: Iterator[None], done: Callable[[], None]) -> None:
+        """Does work in steps, between which others have their turn."""
+        for _ in steps:
+            self.loop.later(lambda: self.work(steps, done))
+            return
+        done()
+
+    def has_room(self) -> bool:
+        """Whether more may be held back."""
+        return self.held + self.loop.waiting <= MOST_HELD
+
+    def hold(self, count: int) -> None:
+        """Heeds that so many bytes more are kept. If it is too much the client that has most of it is given up."""
+        self.held += count
+        if self.held + self.loop.waiting > MOST_WAITING:
+            self.loop.soon(self._shed)
+
+    def _shed(self) -> None:
+        """Gives up the client for which most waits, while too much does."""
+        while self.clients and self.held + self.loop.waiting > MOST_WAITING:
+            most = max(self.clients, key=ClientConnection.weight)
+            most.close()
+            most.stream.abort()
+            most.connection_lost()
+
+    def _ended(self, why: str) -> None:
+        """Says at once that the recording ended before its time, and what to do; ends the proxy too if that is asked for."""
+        if self.setting.stop_when_ended:
+            self.loop.stop()
+        advice = "the proxy ends" if self.setting.stop_when_ended else ADVICE
+        tell_line(f"the recording ended early: {why}; {advice}")
+
+    def _tick(self, now: float) -> None:
+        """Looks at what takes too long, and at the files."""
+        for client in list(self.clients):
+            client.check_timeouts(now, self.setting.idle)
+        if self.judge.documents.is_settling and now >= self._settles_to:
+            self.judge.settled()
+            tell_line("the recording begins")
+        if self.discovery is not None and self.discovery.is_over and not self.discovery.has_queue:
+            self.discovery = None
+        damage = next(filter(None, (it.damage() for it in self.judge.history.histories)), None)
+        if damage is not None:
+            self.judge.end(damage)
+
+    def listen(self, tell_address: Callable[[str], object]) -> None:
+        """Listens for the clients of each node, and reports the address."""
+        for node in self.nodes:
+            own = self.loop.listen(node.host, node.port, functools.partial(self.accept, node))
+            shown = f"[{node.host}]" if ":" in node.host else node.host
+            tell_address(f"http://{shown}:{own[0].port}")
+            self._listeners += own
+
+    def serve(self) -> None:
+        """Serves until the loop is stopped. What is open then is lost, and every connection is closed."""
+        self.loop.run()
+        for it in self._listeners:
+            it.close()
+        self._tick(self.loop.now)
+        self.judge.close()
+        for client in list(self.clients):
+            client.stream.abort()
+        self.loop.close()
+        self.inspector.connection.close()

@@ -1,0 +1,323 @@
+"""Checks a recording while it grows, and runs a command at the first fault that is proved.
+
+    python3 -m casbench_recording.watch carts.ndjson --profile opensearch --every 5 -- docker pause node-1 node-2 node-3
+
+It takes the options of a reading, as a check does, and rules documents out. OUT is a history, or a directory of histories. `refuted` is
+final: what refutes the lines so far refutes every history that begins with them. `yes` and `no` are not: docs/RECORDING.md says why. At
+the first `refuted` it prints what `explain` says, runs COMMAND, and exits with status 1. Ctrl-C ends it after a last check. The exit
+status is then that of the worst answer: 0 for `yes`, 1 for `no`, 2 if a text is no history or there is none. If a check gives no verdict,
+or lines that were checked are gone, it exits at once with status 4.
+"""
+
+import argparse
+import contextlib
+import json
+import os
+import re
+import select
+import signal
+import subprocess
+import sys
+import time
+from dataclasses import dataclass
+from typing import Dict, List, Optional, Sequence, Tuple
+
+from casbench_recording.cluster import number_from
+from casbench_recording.console import counted, escaped, usage_name
+from casbench_recording.history.continuing import GROWING
+from casbench_recording.history.readings import add_reading_options, reading_of
+from casbench_recording.shrink import ShrinkError, program_at_hand
+
+from .process import CAN_NOT_CHECK, EVERY, options_of
+from .snapshots import CheckError, ProgramAnswer, Snapshot, try_check
+from .terms import TermReader, Terms
+
+REST = 9.0
+"""How many times as long as the last check took of a processor the next one waits, so that they take a tenth of one at most."""
+
+PART = re.compile(r"part-[0-9]+\.ndjson")
+"""The name of a finished part of a recording without end."""
+
+
+class WatchStop:
+    """Ctrl-C, a request to end, or the end of standard input: the next round is the last one. A second signal ends at once.
+
+    If standard input is heeded its end is the only request: SIGTERM ends the watch at once then, without an answer.
+    """
+
+    def __init__(self, ends_with_input: bool) -> None:
+        self.is_set = False
+        self._wake, self._woken = os.pipe()
+        self._sources = [self._wake, *([sys.stdin.fileno()] if ends_with_input else [])]
+        for kind in (signal.SIGINT, *([] if ends_with_input else [signal.SIGTERM])):
+            # (the background jobs of a shell ignore Ctrl-C)
+            if signal.getsignal(kind) is not signal.SIG_IGN:
+                signal.signal(kind, self._ask)
+
+    def _ask(self, *_: object) -> None:
+        """Takes a signal."""
+        if self.is_set:
+            raise KeyboardInterrupt
+        self.is_set = True
+        os.write(self._woken, b"x")
+
+    def wait_until(self, moment: float) -> None:
+        """Waits until a moment of the monotonic clock, or until it is set."""
+        while not self.is_set and time.monotonic() < moment:
+            ready, _, _ = select.select(self._sources, [], [], max(0.0, moment - time.monotonic()))
+            if any(it != self._wake and not os.read(it, 4096) for it in ready):
+                self.is_set = True
+
+
+@dataclass
+class Watched:
+    """A history that is watched: what reads its terms, how many bytes of it were checked last, the answer, whether that was printed as
+    the one of a finished part, whether it was finished then, so that it may be deleted, and whether it is deleted."""
+
+    terms: TermReader
+    length: int = 0
+    answer: Optional[ProgramAnswer] = None
+    is_told: bool = False
+    is_finished: bool = False
+    is_deleted: bool = False
+
+
+class Watch:
+    """The histories of a recording, by their names without the suffix of a part that grows."""
+
+    def __init__(self, setting: argparse.Namespace, stop: WatchStop) -> None:
+        self.setting = setting
+        self.stop = stop
+        self.histories: Dict[str, Watched] = {}
+        # by the name of a history, those of all parts together
+        self.terms: Dict[str, Terms] = {}
+        self._program = setting.program or program_at_hand()
+        self._options = options_of(reading_of(setting))
+        # (no check begins before this moment)
+        self._rests_until = 0.0
+
+    def run(self) -> int:
+        """Checks until the end is asked for, or a history is refuted; returns the exit status. Raises CheckError if it can't check."""
+        try_check([self._program, "check", *self._options])
+        while True:
+            is_last, began = self.stop.is_set, time.monotonic()
+            for path in self.paths():
+                refuted = self.check(path, is_last)
+                if refuted is not None:
+                    return self.tell_refuted(*refuted)
+                if self.stop.is_set and not is_last:
+                    break
+            self.refuse_losses()
+            if is_last:
+                return self.tell_end()
+            self.stop.wait_until(began + self.setting.every)
+
+    def paths(self) -> List[str]:
+        """The files of the recording, in the order of their names."""
+        out = self.setting.out
+        if not os.path.isdir(out):
+            return [out] if os.path.exists(out) else []
+        return sorted(os.path.join(out, it) for it in os.listdir(out) if it.endswith((".ndjson", f".ndjson{GROWING}")))
+
+    def refuse_losses(self) -> None:
+        """Raises CheckError if lines that were checked are gone. A finished part may be deleted, once it was checked as one."""
+        checked = {name: it for name, it in self.histories.items() if it.length}
+        lost = [name for name, it in checked.items() if not it.is_finished and not is_there(name)]
+        if checked and not is_there(name_of(self.setting.out)):
+            lost = [self.setting.out]
+        if lost:
+            raise CheckError(f"{lost[0]} was removed while it was watched")
+
+    def check(self, path: str, is_last: bool) -> Optional[Tuple[Snapshot, str]]:
+        """Checks a file if it has grown; returns the lines that were checked if they are refuted, and the line of that verdict."""
+        watched = self.watched(name_of(path))
+        # (a part that is finished meanwhile has another name, and has its turn in the next round)
+        with contextlib.suppress(FileNotFoundError):
+            snapshot = Snapshot(path)
+            if snapshot.length < watched.length:
+                raise CheckError(f"{path} was cut off while it was watched")
+            if snapshot.length != watched.length:
+                if not is_last:
+                    self.stop.wait_until(self._rests_until)
+                watched.answer = snapshot.check([self._program, "check", *self._options])
+                watched.length = snapshot.length
+                self.rest_for(watched.answer.seconds)
+                self.tell_check(path, watched.answer)
+            if watched.answer is not None and watched.answer.word != "refused":
+                before = time.process_time()
+                watched.terms.read(snapshot.lines_from(watched.terms.length))
+                self.rest_for(time.process_time() - before)
+                if watched.answer.word == "refuted":
+                    return snapshot, watched.answer.line
+            watched.is_finished = is_finished(path)
+            self.tell_finished(path, watched)
+            self.delete_if_done(path, watched)
+        return None
+
+    def rest_for(self, seconds: float) -> None:
+        """Has the next check wait, after what took so many seconds of a processor."""
+        self._rests_until = max(self._rests_until, time.monotonic()) + REST * seconds
+
+    def watched(self, name: str) -> Watched:
+        """The history of this name, which is watched from now on."""
+        if name not in self.histories:
+            of = self.setting.out if PART.fullmatch(os.path.basename(name)) else name
+            self.histories[name] = Watched(TermReader(self.terms.setdefault(of, Terms())))
+        return self.histories[name]
+
+    def delete_if_done(self, path: str, watched: Watched) -> None:
+        """Deletes a finished part that got `yes`, if that is asked for."""
+        if self.setting.delete_parts and is_finished(path) and watched.answer is not None and watched.answer.word == "yes":
+            os.remove(path)
+            watched.is_deleted = True
+
+    # What is printed
+
+    def tell_check(self, path: str, answer: ProgramAnswer) -> None:
+        """Prints a line on a check, on a terminal."""
+        if sys.stdout.isatty():
+            name = "" if path == self.setting.out else f"{escaped(os.path.basename(path))}  "
+            # (a recorder may have a line on its progress there, which it writes again)
+            print(f"\r\x1b[K{time.strftime('%H:%M:%S')}  {name}{answer.line}  ({answer.seconds:.2f} s)", flush=True)
+
+    def tell_finished(self, path: str, watched: Watched) -> None:
+        """Prints a line on a finished part, once, if there is no terminal."""
+        if is_finished(path) and watched.answer is not None and not watched.is_told and not sys.stdout.isatty():
+            watched.is_told = True
+            print(f"{escaped(os.path.basename(path))}: {watched.answer.line}", flush=True)
+
+    def tell_refuted(self, snapshot: Snapshot, line: str) -> int:
+        """Prints what `explain` says, or else the line of the verdict; runs the command, and returns the exit status.
+
+        The verdict stands, whatever else fails.
+        """
+        try:
+            explained = snapshot.ask([self._program, "explain", *self._options]).text
+        except (CheckError, OSError) as fault:
+            tell_fault(str(fault))
+            explained = ""
+        try:
+            if len(self.histories) > 1 or snapshot.path != self.setting.out:
+                print(f"{escaped(snapshot.path)}:")
+            print(explained if explained.startswith(f"{line}\n") else f"{line}\n", end="", flush=True)
+            self.tell_beside()
+        except OSError as fault:
+            # (nobody reads it any more)
+            tell_fault(str(fault))
+            os.dup2(os.open(os.devnull, os.O_WRONLY), sys.stdout.fileno())
+        if self.setting.command:
+            run_command(self.setting.command)
+        return 1
+
+    def tell_end(self) -> int:
+        """Prints the last answers, and returns the exit status."""
+        answers = [it.answer for it in self.histories.values() if it.answer is not None]
+        if not answers:
+            tell_fault(f"there is nothing to check in {escaped(self.setting.out)}")
+            return 2
+        if os.path.isdir(self.setting.out):
+            counts = ", ".join(f"{sum(it.word == word for it in answers)} {word}" for word in ("yes", "no", "refused"))
+            deleted = sum(it.is_deleted for it in self.histories.values())
+            print(f"{counted(len(answers), 'part')}: {counts}" + (f"; {deleted} deleted" if deleted else ""))
+        for answer in answers:
+            if not os.path.isdir(self.setting.out) or answer.word != "yes":
+                print(answer.line)
+        self.tell_beside()
+        return max(it.status for it in answers)
+
+    def tell_beside(self) -> None:
+        """Prints what the answers don't say: which acknowledged writes may be lost, and what isn't judged."""
+        for terms in self.terms.values():
+            for it in terms.hints():
+                print(f"hint: {it}: it may be lost, though no reply shows that", flush=True)
+        tell_unjudged(self.setting.out)
+
+
+def tell_fault(text: str) -> None:
+    """Writes a line on standard error."""
+    print(f"casbench_recording.watch: {text}", file=sys.stderr)
+
+
+def name_of(path: str) -> str:
+    """The path of a history, without the suffix of a part that grows."""
+    return path[: -len(GROWING)] if path.endswith(GROWING) else path
+
+
+def is_there(name: str) -> bool:
+    """Whether a history is there, growing or finished. (One that is finished between the two looks is found by the second.)"""
+    return os.path.exists(name + GROWING) or os.path.exists(name)
+
+
+def is_finished(path: str) -> bool:
+    """Whether a file is a finished part of a recording without end."""
+    return PART.fullmatch(os.path.basename(path)) is not None
+
+
+def tell_unjudged(out: str) -> None:
+    """Prints how much isn't judged, by the list beside a proxy's recording, and why it ended early, if it did.
+
+    The end of the list says how many calls were left out, so only that of a recording that is over does.
+    """
+    with contextlib.suppress(FileNotFoundError), open(f"{out}.not-judged", encoding="utf-8") as lines:
+        listed = [json.loads(it) for it in lines if it.endswith("\n")]
+        count, calls = sum("id" in it for it in listed), sum(it.get("calls", 0) for it in listed)
+        count += sum(it.get("documents", 0) for it in listed)
+        if count:
+            left_out = f", {counted(calls, 'call')}" if calls else ""
+            print(f"not judged: {counted(count, 'document')}{left_out}, listed in {escaped(lines.name)}", flush=True)
+        for it in listed:
+            if it.get("ended"):
+                print(f"the recording ended early: {escaped(it['why'])}", flush=True)
+
+
+def run_command(command: Sequence[str]) -> None:
+    """Runs the operator's command. If it fails that is said."""
+    try:
+        status = subprocess.run(command, stdin=subprocess.DEVNULL).returncode
+        fault = f"ended with status {status}" if status else ""
+    except OSError as it:
+        fault = f"can't be run: {it.strerror}"
+    if fault:
+        tell_fault(f"{escaped(' '.join(command))} {fault}")
+
+
+# The command line
+
+
+def parse_arguments(arguments: Optional[Sequence[str]]) -> argparse.Namespace:
+    """Reads the arguments; without any, those of the process. What follows `--` is the command."""
+    own, command = list(sys.argv[1:] if arguments is None else arguments), []
+    if "--" in own:
+        at = own.index("--")
+        own, command = own[:at], own[at + 1 :]
+    parser = argparse.ArgumentParser(
+        prog=usage_name("watch"),
+        description="Checks a recording while it grows, and runs a command at the first fault that is proved.",
+        usage="%(prog)s OUT [OPTIONS] [-- COMMAND ..]",
+    )
+    add = parser.add_argument
+    add("out", metavar="OUT", help="the history, or the directory of histories")
+    add("--every", type=number_from(0.1, float), default=EVERY, help="seconds between the beginnings of two rounds of checks (5)")
+    add_reading_options(add)
+    add("--program", help="the casbench that checks (./casbench, or that on the path)")
+    add("--delete-parts", action="store_true", help="delete finished parts that get yes")
+    add("--until-closed", action="store_true", help="end, after a last check, when standard input ends")
+    setting = parser.parse_args(own)
+    setting.command = command
+    return setting
+
+
+def main(arguments: Optional[Sequence[str]] = None) -> int:
+    """Watches by the arguments, and returns the exit status."""
+    setting = parse_arguments(arguments)
+    try:
+        return Watch(setting, WatchStop(setting.until_closed)).run()
+    except (CheckError, ShrinkError, OSError) as fault:
+        tell_fault(escaped(str(fault)))
+        return CAN_NOT_CHECK
+    except KeyboardInterrupt:
+        return 130
+    except Exception as fault:
+        # (with the status of a fault, and not with that of a verdict, which Python would take)
+        tell_fault(f"a fault of the watch: {escaped(repr(fault))}")
+        return CAN_NOT_CHECK
