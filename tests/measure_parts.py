@@ -59,8 +59,8 @@ class Turns:
             if self.kind == "written":
                 judged_turn(self.judge, turn, id, True)
             else:
-                asked = self.judge.ask(self.judge.route("GET", f"/carts/_doc/{id}".encode()), "GET", b"")
-                self.judge.answered(asked, 404, b'{"_index":"carts","_id":"%s","found":false}' % id.encode(), None)
+                asked = self.judge.requests.ask(self.judge.route("GET", f"/carts/_doc/{id}".encode()), "GET", b"")
+                self.judge.answers.answered(asked, 404, b'{"_index":"carts","_id":"%s","found":false}' % id.encode(), None)
         self.made += count
 
 
@@ -86,8 +86,8 @@ def judged_turn(judge, turn, id, is_new):
     written = head + '"result":"%s","_shards":{"total":1,"successful":1,"failed":0},%s}' % (result, pair)
     found = head + '%s,"found":true,"_source":%s}' % (pair, source.decode())
     for method, content, answer in (("PUT", source, (status, written)), ("GET", b"", (200, found))):
-        asked = judge.ask(judge.route(method, f"/carts/_doc/{id}".encode()), method, content)
-        judge.answered(asked, answer[0], answer[1].encode(), None)
+        asked = judge.requests.ask(judge.route(method, f"/carts/_doc/{id}".encode()), method, content)
+        judge.answers.answered(asked, answer[0], answer[1].encode(), None)
 
 
 def measure_memory(program, folder, calls):

@@ -8,7 +8,7 @@ from casbench_recording.proxy.recording.recorded_requests import Requester
 
 from .cluster_side import ClusterSide
 from .connecting import Connecting
-from .exchange import Exchange
+from .exchange import SENT, TAKING, WITH_ANSWER, Exchange
 from .loop import Stream
 from .refusal import refusal
 
@@ -36,7 +36,6 @@ class ClientConnection:
 
     stream: Stream
     exchange: Optional[Exchange]
-    is_working: bool
     is_cluster_full: bool
     active_at: float
     held: int
@@ -52,8 +51,6 @@ class ClientConnection:
         self.cluster: Optional[ClusterSide] = None
         self.connecting: Optional[Connecting] = None
         self.is_connected = False
-        # whether something is done for the request at hand before it can go on
-        self.is_working = False
         self.is_cluster_full = self.is_paused = False
         # until when the connection to the cluster has to be there
         self.connected_by = 0.0
@@ -98,10 +95,10 @@ class ClientConnection:
                 pass
         except BadMessage as fault:
             self.close(refusal("400 Bad Request", f"the request can't be read: {fault}") if self.exchange is None else b"")
-        if self.stream.is_at_end and not self.is_working and (self.exchange is None or not self.exchange.is_sent):
-            self.close()
         exchange = self.exchange
-        if self.data or self.held or self.is_paused or exchange is None or exchange.weight or not exchange.is_sent:
+        if self.stream.is_at_end and (exchange is None or exchange.state is TAKING):
+            self.close()
+        if self.data or self.held or self.is_paused or exchange is None or exchange.weight or exchange.state is not SENT:
             self.update_flow()
 
     def ended(self) -> None:
@@ -144,12 +141,12 @@ class ClientConnection:
     def update_flow(self) -> None:
         """Takes no more from the client while the cluster is slow to take it, or while an answer is waited for and much has come."""
         exchange = self.exchange
-        is_sent = exchange is not None and exchange.is_sent
-        is_paused = self.is_cluster_full or len(self.data) > MOST_AHEAD and (is_sent or self.is_working or not self.is_connected)
+        is_taken = exchange is not None and exchange.state is not TAKING
+        is_paused = self.is_cluster_full or len(self.data) > MOST_AHEAD and (is_taken or not self.is_connected)
         if is_paused != self.is_paused:
             self.is_paused = is_paused
             (self.stream.pause_reading if is_paused else self.stream.resume_reading)()
-        if self.data or self.held or exchange is not None and (not is_sent or exchange.weight):
+        if self.data or self.held or exchange is not None and (exchange.state is not SENT or exchange.weight):
             self.account()
 
     def account(self) -> None:
@@ -180,7 +177,7 @@ class ClientConnection:
 
     def waits_for_cluster(self) -> bool:
         """Whether it is for the cluster to do something, and the client is there to see it."""
-        is_asked = self.is_working or self.exchange is not None and self.exchange.is_sent
+        is_asked = self.exchange is not None and self.exchange.state is not TAKING
         return is_asked and not self.stream.waiting and not self.stream.is_at_end
 
     def pause_writing(self) -> None:
@@ -190,7 +187,8 @@ class ClientConnection:
 
     def resume_writing(self) -> None:
         """Takes from the cluster again."""
-        if self.cluster is not None and not self.is_working and not self.stream.is_paused:
+        is_answered = self.exchange is not None and self.exchange.state in WITH_ANSWER
+        if self.cluster is not None and not is_answered and not self.stream.is_paused:
             self.cluster.stream.resume_reading()
 
     def connection_lost(self) -> None:

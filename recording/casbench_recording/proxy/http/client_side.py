@@ -1,5 +1,6 @@
 """What a client asks: its requests are passed on as they came, behind the lines of their calls."""
 
+import functools
 from typing import Iterator, Optional
 
 from casbench_recording.http1 import (
@@ -23,7 +24,7 @@ from casbench_recording.proxy.recording.recorded_requests import (
 from casbench_recording.proxy.routing.routes import BULK, CALL, NODES, PASS, READS, SWEEP, RouteKind
 
 from .client_connection import ClientConnection
-from .exchange import Coming, ComingInPieces, Exchange
+from .exchange import HELD, SENT, TAKING, WITH_ANSWER, Coming, ComingInPieces, Exchange
 
 FEW_PARTS = 16
 """Of how many parts of a request it isn't counted how much memory they take."""
@@ -42,23 +43,21 @@ class ClientSide(ClientConnection):
 
     def has_step(self) -> bool:
         """Does the next step with what the client sent; tells whether there may be another one."""
-        if self.is_working:
-            return False
         exchange = self.exchange
         if exchange is None:
             return self.has_request()
-        if exchange.is_sent or exchange.coming is None:
+        if exchange.state is not TAKING or exchange.coming is None:
             return False
         if isinstance(exchange.coming, ComingInPieces):
-            self.is_working = True
-            self.proxy.work(self.take_items(exchange, exchange.coming), self.worked)
-            return not self.is_working and exchange.is_sent
-        self.take_piece(exchange, exchange.coming)
-        return exchange.is_sent
+            exchange.hold()
+            self.proxy.work(self.take_items(exchange, exchange.coming), functools.partial(self.go_on_with, exchange))
+        else:
+            self.take_piece(exchange, exchange.coming)
+        return exchange.state is SENT
 
-    def worked(self) -> None:
+    def go_on_with(self, exchange: Exchange) -> None:
         """Goes on after something was done for the request at hand."""
-        self.is_working = False
+        exchange.go_on()
         if not self.stream.is_closing and (self.data or self.stream.is_at_end):
             self.proxy.loop.soon(self.go_on)
 
@@ -91,7 +90,7 @@ class ClientSide(ClientConnection):
             return False
         if is_bulk:
             exchange.coming = ComingInPieces(data[:end], request.body(), request.fields.encoding)
-            exchange.recorded = judge.ask_in_pieces(route, self.requester_of(request))
+            exchange.recorded = judge.requests.ask_in_pieces(route, self.requester_of(request))
         else:
             exchange.coming = Coming(data[:end], request.body(), route is not PASS)
         self.data = data[end:]
@@ -102,38 +101,38 @@ class ClientSide(ClientConnection):
         client = request.fields.opaque_id
         return Requester(client, self.node.name) if client else self.default_requester
 
-    def ask_and_send(self, exchange: Exchange, content: Optional[bytes], data: bytes, is_sent: bool, has_turn: bool = False) -> None:
+    def ask_and_send(self, exchange: Exchange, content: Optional[bytes], data: bytes, is_all: bool, has_turn: bool = False) -> None:
         """Has the calls of a request written, and passes it on. The content is None where too much of it came to be read."""
         route, request, proxy = exchange.route, exchange.request, self.proxy
         if route is not PASS:
             if proxy.discovery is not None and not has_turn and proxy.discovery.concerns(route, content):
-                self.wait_for_turn(proxy.discovery, exchange, content, data, is_sent)
+                self.wait_for_turn(proxy.discovery, exchange, content, data, is_all)
                 return
             if route.kind is SWEEP:
-                exchange.recorded = proxy.judge.begin_sweep(route)
-                self.is_working = True
-                proxy.work(proxy.judge.sweeping(route), lambda: self.swept(exchange, data, is_sent))
+                exchange.recorded = proxy.judge.requests.begin_sweep(route)
+                exchange.hold()
+                proxy.work(proxy.judge.requests.sweeping(route), lambda: self.swept(exchange, data, is_all))
                 return
             if route is NODES:
                 proxy.warn_of_nodes(request)
             if content and (request.fields.encoding or len(content) > MOST_READ):
                 content = decoded(content, request.fields.encoding, MOST_READ)
             requester = self.requester_of(request) if request.fields.opaque_id else self.default_requester
-            recorded = exchange.recorded = proxy.judge.ask(route, request.method, content, requester)
+            recorded = exchange.recorded = proxy.judge.requests.ask(route, request.method, content, requester)
             if recorded is not None and len(recorded.parts) > FEW_PARTS:
                 self.account()
-        self.send(exchange, data, is_sent)
+        self.send(exchange, data, is_all)
 
-    def wait_for_turn(self, discovery: IndexDiscovery, exchange: Exchange, content: Optional[bytes], data: bytes, is_sent: bool) -> None:
+    def wait_for_turn(self, discovery: IndexDiscovery, exchange: Exchange, content: Optional[bytes], data: bytes, is_all: bool) -> None:
         """Holds back a request for an index that isn't there yet until it has its turn."""
-        self.is_working = True
+        exchange.hold()
         exchange.weight += len(data)
         self.account()
-        discovery.queue.wait_for(lambda: self.has_turn(discovery, exchange, content, data, is_sent))
+        discovery.queue.wait_for(lambda: self.has_turn(discovery, exchange, content, data, is_all))
 
-    def has_turn(self, discovery: IndexDiscovery, exchange: Exchange, content: Optional[bytes], data: bytes, is_sent: bool) -> None:
+    def has_turn(self, discovery: IndexDiscovery, exchange: Exchange, content: Optional[bytes], data: bytes, is_all: bool) -> None:
         """Passes on a request for an index that isn't there yet. One that may make it keeps the turn until it was answered."""
-        self.is_working = False
+        exchange.go_on()
         exchange.weight -= len(data)
         route, request = exchange.route, exchange.request
         if self.stream.is_closing:
@@ -141,25 +140,26 @@ class ClientSide(ClientConnection):
             return
         if discovery.is_over or route.kind not in MAKERS or route.op == "get":
             discovery.queue.end()
-            self.ask_and_send(exchange, content, data, is_sent, True)
+            self.ask_and_send(exchange, content, data, is_all, True)
         else:
             plain = decoded(content, request.fields.encoding, MOST_READ) if content else content
             making = exchange.recorded = IndexMakingRequest(route, request.method, plain, self.requester_of(request))
             discovery.makes(making, lambda: self.lose(exchange))
-            self.send(exchange, data, is_sent)
-        if not self.is_working:
-            self.worked()
+            self.send(exchange, data, is_all)
+        if exchange.state is not HELD:
+            self.go_on_with(exchange)
 
-    def swept(self, exchange: Exchange, data: bytes, is_sent: bool) -> None:
+    def swept(self, exchange: Exchange, data: bytes, is_all: bool) -> None:
         """Passes on a request that may change every document, after none that was there is judged."""
         if not self.stream.is_closing:
-            self.send(exchange, data, is_sent)
-        self.worked()
+            self.send(exchange, data, is_all)
+        self.go_on_with(exchange)
 
-    def send(self, exchange: Exchange, data: bytes, is_sent: bool) -> None:
+    def send(self, exchange: Exchange, data: bytes, is_all: bool) -> None:
         """Passes on what came of a request, perhaps the last of it."""
         assert self.cluster is not None
-        exchange.is_sent = is_sent
+        if is_all:
+            exchange.send_all()
         discovery = self.proxy.discovery
         if discovery is not None and exchange.request.method not in READS:
             discovery.passes(exchange, Passed(exchange.request.method, exchange.request.target, self.node.paths, exchange.route))
@@ -195,14 +195,14 @@ class ClientSide(ClientConnection):
                 yield
                 if self.stream.is_closing:
                     return
-            judge.take_items(recorded, plain, False, self.proxy.has_room())
+            judge.requests.take_items(recorded, plain, False, self.proxy.has_room())
             coming.length += len(plain or b"")
             self.account()
             if judge.has_ended:
                 break
         coming.add(raw)
         if body.is_done:
-            judge.take_items(recorded, b"", True)
+            judge.requests.take_items(recorded, b"", True)
             exchange.recorded = recorded if recorded.has_calls else None
         if not self.stream.is_closing:
             is_all = body.is_done or judge.has_ended
@@ -219,7 +219,7 @@ class ClientSide(ClientConnection):
     def give_up(self) -> None:
         """Writes the calls that are open as lost."""
         exchange, discovery = self.exchange, self.proxy.discovery
-        if exchange is None or exchange.is_answered:
+        if exchange is None or exchange.state in WITH_ANSWER:
             return
         self.lose(exchange)
         if discovery is not None:

@@ -18,7 +18,7 @@ from casbench_recording.proxy.recording.answer_recorder import MOST_AT_ONCE
 from casbench_recording.proxy.recording.recorded_requests import IndexMakingRequest
 from casbench_recording.proxy.routing.routes import BULK, READS, RouteKind
 
-from .exchange import Exchange
+from .exchange import ANSWERED, WITH_ANSWER, Exchange
 from .loop import Stream
 from .refusal import refusal
 from .tls import TlsStream
@@ -65,7 +65,7 @@ class ClusterSide:
         """Does the next step with what the cluster sent; tells whether there may be another one."""
         client = self.client
         exchange = client.exchange
-        if exchange is None or exchange.is_answered:
+        if exchange is None or exchange.state in WITH_ANSWER:
             self.fail("an answer came to no request")
             return False
         if exchange.response is None:
@@ -132,7 +132,7 @@ class ClusterSide:
     def finish(self, exchange: Exchange, response: Response, content: bytes) -> None:
         """Writes what a whole answer says of calls, in steps if it says much."""
         recorded = exchange.recorded
-        exchange.is_answered = True
+        exchange.end_answer()
         if recorded is None:
             self.discover_index(exchange)
             return
@@ -144,19 +144,17 @@ class ClusterSide:
         if isinstance(recorded, IndexMakingRequest):
             self.discover_made_index(exchange, recorded, response, plain)
         elif len(recorded.parts) <= MOST_AT_ONCE:
-            proxy.judge.answered(recorded, response.status, plain, fields.length)
+            proxy.judge.answers.answered(recorded, response.status, plain, fields.length)
             (self.deliver if proxy.discovery is None else self.discover_index)(exchange)
         else:
-            self.work(proxy.judge.answering(recorded, response.status, plain), exchange)
+            self.work(proxy.judge.answers.answering(recorded, response.status, plain), exchange)
 
     def work(self, steps: Iterator[None], exchange: Exchange) -> None:
         """Does what takes a while, in steps, and then goes on with the answer. Nothing more is taken meanwhile."""
-        self.client.is_working = True
         self.stream.pause_reading()
 
         def go_on() -> None:
-            self.client.is_working = False
-            self.client.resume_writing()
+            self.take_more()
             self.discover_index(exchange)
 
         self.client.proxy.work(steps, go_on)
@@ -166,7 +164,6 @@ class ClusterSide:
         proxy = self.client.proxy
         discovery = proxy.discovery
         assert discovery is not None
-        self.client.is_working = True
         self.stream.pause_reading()
 
         def go_on() -> None:
@@ -181,15 +178,18 @@ class ClusterSide:
         if discovery is None or exchange.request.method in READS:
             self.deliver(exchange)
             return
-        self.client.is_working = True
         self.stream.pause_reading()
         discovery.answered(exchange, lambda: self.found(exchange), exchange.route.kind not in OF_OTHERS)
 
     def found(self, exchange: Exchange) -> None:
         """Goes on after the index was looked for."""
-        self.client.is_working = False
-        self.client.resume_writing()
+        self.take_more()
         self.deliver(exchange)
+
+    def take_more(self) -> None:
+        """Reads again, unless the client is slow to take what was read."""
+        if not self.client.stream.is_paused:
+            self.stream.resume_reading()
 
     def deliver(self, exchange: Exchange) -> None:
         """Passes on an answer, or the last of it, and goes on with the next request."""
@@ -197,7 +197,7 @@ class ClusterSide:
         self.pass_on(exchange)
         if self.data:
             self.fail("more than an answer came")
-        elif exchange.is_sent and not self.stream.is_closing:
+        elif exchange.state is ANSWERED and not self.stream.is_closing:
             client.answered()
         else:
             # (the cluster is gone, or didn't want the rest of the request, and the client's next one can't be distinguished from it)
@@ -231,7 +231,7 @@ class ClusterSide:
         """Ends the client's connection too: with the end of an answer that ends so, or with word that there is none."""
         client = self.client
         exchange = client.exchange
-        if client.stream.is_closing or exchange is not None and exchange.is_answered:
+        if client.stream.is_closing or exchange is not None and exchange.state in WITH_ANSWER:
             return
         if exchange is not None and exchange.body is not None and exchange.body.at_close() and self.stream.is_at_end:
             assert exchange.response is not None

@@ -2,6 +2,7 @@
 
 import zlib
 from collections import deque
+from enum import Enum
 from typing import Deque, Iterator, Optional, Tuple, Union
 
 from casbench_recording.http1 import Body, Request, Response, decoder_of
@@ -15,12 +16,37 @@ MOST_PLAIN = 128 * 1024 * 1024
 """The most bytes of a bulk request, unpacked. A cluster takes 100 MiB."""
 
 
-class Exchange:
-    """A request and its answer."""
+class ExchangeState(Enum):
+    """How far a request and its answer are.
 
+    The methods of `Exchange` are all transitions:
+
+        TAKING --hold--> HELD --go_on--> TAKING
+        TAKING, HELD --send_all--> SENT --end_answer--> ANSWERED
+        TAKING, HELD --end_answer--> ANSWERED_EARLY --send_all--> ANSWERED
+    """
+
+    TAKING = "the request is received, and passed on as far as it can be"
+    HELD = "nothing more is received until what has to be done first is done, such as writing many calls"
+    SENT = "the whole request was passed on"
+    ANSWERED = "the whole answer was received, and is passed on when its replies are written"
+    ANSWERED_EARLY = "the same, and the request was not passed on as a whole"
+
+
+TAKING, HELD, SENT = ExchangeState.TAKING, ExchangeState.HELD, ExchangeState.SENT
+"""The states that each exchange is asked for. An Enum takes long to find a member by its name."""
+
+ANSWERED, ANSWERED_EARLY = ExchangeState.ANSWERED, ExchangeState.ANSWERED_EARLY
+WITH_ANSWER = (ANSWERED, ANSWERED_EARLY)
+"""The states in which the whole answer was received."""
+
+
+class Exchange:
+    """A request and its answer. It ends when the answer was passed on."""
+
+    state = TAKING
     # what came of a request that is taken in pieces
     coming: Optional["Coming"] = None
-    is_sent = False
     # the client was told to go on with its request
     was_continued = False
     recorded: Optional[RecordedRequest] = None
@@ -31,12 +57,30 @@ class Exchange:
     answer: Union[bytes, bytearray] = b""
     # how many bytes are kept of a head that is long
     weight = 0
-    # whether all of the answer came, and whether anything of it was passed on
-    is_answered = has_begun = False
+    # whether a part of the answer was passed on
+    has_begun = False
 
     def __init__(self, request: Request, route: Route) -> None:
         self.request = request
         self.route = route
+
+    def hold(self) -> None:
+        """Receives nothing more until `go_on`."""
+        if self.state is TAKING:
+            self.state = HELD
+
+    def go_on(self) -> None:
+        """Receives again what is left of the request, unless it was passed on or answered meanwhile."""
+        if self.state is HELD:
+            self.state = TAKING
+
+    def send_all(self) -> None:
+        """The last of the request is passed on."""
+        self.state = ANSWERED if self.state is ANSWERED_EARLY else SENT
+
+    def end_answer(self) -> None:
+        """The last of the answer was received."""
+        self.state = ANSWERED if self.state is SENT else ANSWERED_EARLY
 
 
 class Coming:

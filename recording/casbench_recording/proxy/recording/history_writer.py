@@ -34,13 +34,18 @@ class HistoryWriter:
         if not self.has_ended:
             self.has_ended = True
             self._ends(why)
-            self.end_histories()
+            self._end_histories()
+
+    def close(self) -> None:
+        """Ends the recording at its time."""
+        self.has_ended = True
+        self._end_histories()
 
     def end_by(self, fault: Exception) -> None:
         """Ends the recording: the application goes on, and nothing stands in the history behind what wasn't understood."""
         self.end(str(fault) if isinstance(fault, UnknownWrites) else f"a fault of the recorder: {fault!r}")
 
-    def end_histories(self) -> None:
+    def _end_histories(self) -> None:
         """Ends each history."""
         for history in self.history.histories:
             try:

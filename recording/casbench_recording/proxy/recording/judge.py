@@ -63,12 +63,9 @@ class Judge:
         self._is_closed = False
         # takes what the index is once it is found
         self.on_shape: Callable[[Shape], object] = lambda shape: None
-        # what is asked, and what is answered, by those that tell it
-        asking = RequestRecorder(self.documents)
-        self.ask, self.ask_in_pieces, self.take_items = asking.ask, asking.ask_in_pieces, asking.take_items
-        self.begin_sweep, self.sweeping = asking.begin_sweep, asking.sweeping
-        answering = AnswerRecorder(self.documents, asking)
-        self.answered, self.answering, self._lost = answering.answered, answering.answering, answering.lost
+        # what writes the calls of requests, and what writes their endings
+        self.requests = RequestRecorder(self.documents)
+        self.answers = AnswerRecorder(self.documents, self.requests)
 
     @property
     def shape(self) -> Optional[Shape]:
@@ -113,16 +110,19 @@ class Judge:
         """
         if self.shape is None and 400 <= status < 500:
             return True
-        recorded = self.ask(making.route, making.method, making.content, making.requester)
+        recorded = self.requests.ask(making.route, making.method, making.content, making.requester)
         if recorded is not None:
-            self.answered(recorded, status, content, length)
+            self.answers.answered(recorded, status, content, length)
         return self.shape is not None
 
     def lost(self, recorded: RecordedRequest) -> None:
         """Writes that no whole answer came."""
-        told = self.ask(recorded.route, recorded.method, recorded.content, recorded.requester) if isinstance(recorded, IndexMakingRequest) else recorded
-        if told is not None:
-            self._lost(told)
+        if isinstance(recorded, IndexMakingRequest):
+            asked = self.requests.ask(recorded.route, recorded.method, recorded.content, recorded.requester)
+        else:
+            asked = recorded
+        if asked is not None:
+            self.answers.lost(asked)
 
     def note(self, text: str) -> None:
         """Puts a note on the next line of each history."""
@@ -137,8 +137,8 @@ class Judge:
         """Ends the recording at its time, once. What was never seen created isn't judged."""
         if self._is_closed:
             return
-        self._is_closed = self.writer.has_ended = True
-        self.writer.end_histories()
+        self._is_closed = True
+        self.writer.close()
         self.documents.close()
         self.unjudged.close(self.documents.left_out)
 

@@ -55,7 +55,13 @@ class RequestRecorder:
     def ask(self, route: Route, method: str, content: Optional[bytes], requester: Requester = UNKNOWN_REQUESTER) -> Optional[RecordedRequest]:
         """Writes the calls of a client's request, before it is passed on. The content is None where it can't be read."""
         try:
-            return None if self._writer.has_ended else self._ask(route, method, content, requester)
+            if self._writer.has_ended:
+                return None
+            if route.kind is CALL:
+                digest = digest_of_text(content) if route.op in WRITES_A_VALUE else None
+                part = RequestedCall(route.id, route.op, route.parameters, digest)
+                return self._made_one(CALL, part, requester, method == "HEAD")
+            return self._ask(route, content, requester)
         except Exception as fault:
             self._writer.end_by(fault)
         return None
@@ -93,11 +99,9 @@ class RequestRecorder:
         except Exception as fault:
             self._writer.end_by(fault)
 
-    def _ask(self, route: Route, method: str, content: Optional[bytes], requester: Requester) -> Optional[RecordedRequest]:
+    def _ask(self, route: Route, content: Optional[bytes], requester: Requester) -> Optional[RecordedRequest]:
+        """The same of a request that isn't of one kind with most of them."""
         kind = route.kind
-        if kind is CALL:
-            digest = digest_of_text(content) if route.op in WRITES_A_VALUE else None
-            return self._made_one(kind, RequestedCall(route.id, route.op, route.parameters, digest), requester, method == "HEAD")
         if kind is RouteKind.NEW:
             return self._made_one(kind, RequestedCall("", route.op, route.parameters, digest_of_text(content)), requester)
         if kind is RouteKind.UPDATE:
