@@ -28,13 +28,15 @@ Tag: py3-none-any
 
 
 def is_command(file: pathlib.Path) -> bool:
-    """Whether a file of the package has a command: a module with a function `main`, or a package that runs as a module."""
+    """Whether a file of the package has a command: a module with a function `main`, or a package that runs as
+    a module."""
     has_main = re.search(r"^def main\(", file.read_text(encoding="utf-8"), re.MULTILINE) is not None
     return file.name == "__main__.py" or has_main and file.parent.name == PACKAGE
 
 
 def entry_points(files: Sequence[pathlib.Path]) -> str:
-    """The commands that pip installs: each module or package that has one, such as `stand_in`, as `casbench-stand-in`."""
+    """The commands that pip installs: each module or package that has one, such as `stand_in`, as
+    `casbench-stand-in`."""
     names = sorted(it.parent.name if it.name == "__main__.py" else it.stem for it in files if is_command(it))
     rows = (f"casbench-{it.replace('_', '-')} = {PACKAGE}.{it}:main\n" for it in names)
     return "[console_scripts]\n" + "".join(rows)
@@ -54,7 +56,11 @@ def row_of(name: str, content: bytes) -> str:
     return f"{name},sha256={digest},{len(content)}\n"
 
 
-def build_wheel(wheel_directory: str, config_settings: Optional[Dict[str, Any]] = None, metadata_directory: Optional[str] = None) -> str:
+def build_wheel(
+    wheel_directory: str,
+    config_settings: Optional[Dict[str, Any]] = None,
+    metadata_directory: Optional[str] = None,
+) -> str:
     """Writes the wheel into the folder; gives its name."""
     name, files = f"{PACKAGE}-{VERSION}-py3-none-any.whl", contents()
     rows: List[str] = [row_of(*it) for it in files.items()] + [f"{FOLDER}/RECORD,,\n"]

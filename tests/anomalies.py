@@ -16,7 +16,7 @@ import texts
 from drawing import Draws
 from program_test import ProgramTest, run_tests
 from running import run
-from texts import condition, conflict, created, deleted, found, get, missing, updated
+from texts import condition, conflict, created, deleted, found, missing, updated
 
 DOCUMENTS = ("a", "b", "c")
 

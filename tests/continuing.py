@@ -193,9 +193,9 @@ def may_be_met(write, pair, writes):
 def shows_what_was_met(history):
     """Whether each get found what a write may have made whose condition was met: no copy has anything else."""
     calls = [it for it in known_calls(history.events).values() if it.number not in history.voids]
-    for get in filter(found_document, calls):
-        writes = [it for it in calls if it.doc == get.doc and it.op.name != "get" and it.called < get.replied]
-        if not any(it.op.k == get.reply.more and may_be_met(it, get.reply.pair, writes) for it in writes):
+    for shown in filter(found_document, calls):
+        writes = [it for it in calls if it.doc == shown.doc and it.op.name != "get" and it.called < shown.replied]
+        if not any(it.op.k == shown.reply.more and may_be_met(it, shown.reply.pair, writes) for it in writes):
             return False
     return True
 

@@ -11,7 +11,10 @@ from program import TOP
 # (nothing is left beside the examples)
 sys.dont_write_bytecode = True
 sys.path.append(str(TOP / "examples" / "hostile"))
-from refuse_growths import NO_MEMORY, Refusing
+import refuse_growths
+from refuse_growths import Refusing
+
+NO_MEMORY = refuse_growths.NO_MEMORY
 
 # More growths than any of these checks asks for.
 MANY = 512

@@ -21,7 +21,6 @@ import itertools
 import json
 import os
 import pathlib
-import re
 import shutil
 import signal
 import socket

@@ -19,7 +19,7 @@ from concurrent.futures import ProcessPoolExecutor
 from functools import partial
 from typing import NamedTuple
 
-from drawing import CONFLICT, Call, Ending, Op, pair_taken
+from drawing import Call, Ending, Op, pair_taken
 from evidence import known_calls
 from program_test import ProgramTest, run_tests
 from reading_answers import answer_by_strict_check, check, counts_of, verify, witness_of_text

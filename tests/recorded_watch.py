@@ -339,7 +339,7 @@ class Directory(WatchTest):
     def test_lines_that_are_gone(self):
         """It ends at once: the directory, or a part that grows, or a history that is no part, isn't deleted while it is watched."""
         growing = "parts/part-000002.ndjson.growing"
-        for name, lose, lost in (
+        for name, lose, gone in (
             ("the directory", shutil.rmtree, "parts"),
             ("a part that grows", lambda path: os.remove(os.path.join(self.folder, growing)), "parts/part-000002.ndjson"),
             ("a shard", lambda path: os.remove(os.path.join(path, "shard-0.ndjson")), "parts/shard-0.ndjson"),
@@ -355,7 +355,7 @@ class Directory(WatchTest):
                 lose(self.file)
                 status, printed, fault = self.ended(child)
                 self.assertEqual((status, printed), (4, PART_LINE % (1, 1, 2)), fault)
-                self.assertEqual(fault, f"casbench_recording.watch: {self.folder}/{lost} was removed while it was watched\n")
+                self.assertEqual(fault, f"casbench_recording.watch: {self.folder}/{gone} was removed while it was watched\n")
                 os.makedirs(self.file, exist_ok=True)
 
     def test_finished_parts_that_others_delete(self):

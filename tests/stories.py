@@ -286,7 +286,7 @@ TEXTS += [
         OLDER_GET,
         refuted("stale-get", "32,21", 5, 32),
         [
-            f'\nStale read: a get returned an older version than one that was acknowledged before (call 32 of "d", line 6).\n'
+            '\nStale read: a get returned an older version than one that was acknowledged before (call 32 of "d", line 6).\n'
             "Nothing explains the reply to a get, whatever copy answered it.\nThis is proved by evidence",
             "This get is judged by itself: any copy may have answered it, but none that is in sync answers so.",
             "\n\nWhy nothing explains these replies:\nCall 21 (index k=2) was answered with the version 1/1 (line 4) before call 32, a get, was made (line 5). "

@@ -1,4 +1,5 @@
-"""A cluster: its address, who asks, whom to believe that it is the cluster, and a connection that asks one thing at a time."""
+"""A cluster: its address, who asks, whom to believe that it is the cluster, and a connection that asks one
+thing at a time."""
 
 import argparse
 import base64
@@ -74,14 +75,18 @@ class Connection:
         self.socket: Optional[socket.socket] = None
         self.http: Union[http.client.HTTPConnection, http.client.HTTPSConnection]
         if cluster.trust is not None:
-            self.http = http.client.HTTPSConnection(str(url.hostname), port_of(url), timeout=timeout, context=cluster.trust)
+            self.http = http.client.HTTPSConnection(
+                str(url.hostname), port_of(url), timeout=timeout, context=cluster.trust
+            )
         else:
             self.http = http.client.HTTPConnection(str(url.hostname), port_of(url), timeout=timeout)
 
     def open(self, patience: float, is_over: Callable[[], bool] = lambda: False) -> None:
-        """Connects, where there is no connection, for as many seconds as patience says; raises ClusterError after them.
+        """Connects, where there is no connection, for as many seconds as patience says; raises ClusterError
+        after them.
 
-        This is done before a call is recorded. So a cluster that can't be reached leaves no calls that were lost.
+        This is done before a call is recorded. So a cluster that can't be reached leaves no calls that were
+        lost.
         """
         last = time.monotonic() + patience
         while not self.is_open and not is_over():
@@ -90,11 +95,15 @@ class Connection:
                 self.socket = self.http.sock
             except ssl.SSLCertVerificationError as fault:
                 self.http.close()
-                raise ClusterError(f"the cluster's certificate is not trusted: {fault.verify_message}") from fault
+                raise ClusterError(
+                    f"the cluster's certificate is not trusted: {fault.verify_message}"
+                ) from fault
             except (OSError, http.client.HTTPException) as fault:
                 self.http.close()
                 if time.monotonic() > last:
-                    raise ClusterError(f"nobody answers at {self.http.host} port {self.http.port}: {fault}") from fault
+                    raise ClusterError(
+                        f"nobody answers at {self.http.host} port {self.http.port}: {fault}"
+                    ) from fault
                 time.sleep(PAUSE)
 
     @property
@@ -110,8 +119,9 @@ class Connection:
     def send(self, method: str, path: str, body: Optional[str] = None) -> None:
         """Sends one request. Raises NoAnswer where it may not have been sent whole.
 
-        Rule: no retries. `http.client` sends a request once, follows no redirection, and asks no other host. After a
-        fault the connection is closed, so that an answer that comes late is never taken for that of the next request.
+        Rule: no retries. `http.client` sends a request once, follows no redirection, and asks no other host.
+        After a fault the connection is closed, so that an answer that comes late is never taken for that of
+        the next request.
         """
         with self._closed_by_a_fault():
             self.http.request(method, self.prefix + path, body, self.headers)
@@ -164,7 +174,8 @@ def body_of(response: http.client.HTTPResponse) -> bytes:
 
 
 def connection_to(url: str, timeout: float = 10.0) -> Connection:
-    """A connection to this address, for a harness: it waits so many seconds for each word of an answer, and tells nobody who asks."""
+    """A connection to this address, for a harness: it waits so many seconds for each word of an answer, and
+    tells nobody who asks."""
     address = url_of(url)
     return Connection(ClusterAccess(address, timeout, {}, trust_of(address)))
 
@@ -212,12 +223,15 @@ def credentials_of(environment: Mapping[str, str]) -> Dict[str, str]:
         return {}
     name, colon, value = header.partition(":")
     if not colon or not name.strip() or not header.isprintable() or not header.isascii():
-        raise ClusterError("OPENSEARCH_HEADER is no header, which is one line such as 'Authorization: Bearer ...'")
+        raise ClusterError(
+            "OPENSEARCH_HEADER is no header, which is one line such as 'Authorization: Bearer ...'"
+        )
     return {name.strip(): value.strip()}
 
 
 class Certificates(NamedTuple):
-    """Files of certificates: of whom to trust, and of who asks, with its key if that isn't in the same file."""
+    """Files of certificates: of whom to trust, and of who asks, with its key if that isn't in the same
+    file."""
 
     trusted: Optional[str] = None
     own: Optional[str] = None
@@ -225,9 +239,11 @@ class Certificates(NamedTuple):
 
 
 def trust_of(url: Url, files: Certificates = Certificates()) -> Optional[ssl.SSLContext]:
-    """Whom to believe that the cluster is the cluster, and by which certificate the cluster knows who asks, if it has one.
+    """Whom to believe that the cluster is the cluster, and by which certificate the cluster knows who asks,
+    if it has one.
 
-    The cluster's certificate and its name are verified, always: by the file alone if there is one, and else by those whom the system trusts.
+    The cluster's certificate and its name are verified, always: by the file alone if there is one, and else
+    by those whom the system trusts.
     """
     if url.scheme != "https":
         return None
@@ -240,7 +256,8 @@ def trust_of(url: Url, files: Certificates = Certificates()) -> Optional[ssl.SSL
             # (an empty password is none; without one OpenSSL would ask for it on the terminal)
             trust.load_cert_chain(files.own, files.key, os.environ.get("OPENSEARCH_KEY_PASSWORD", ""))
         except OSError as fault:
-            raise ClusterError(f"{files.own} holds no certificate with its key, or OPENSEARCH_KEY_PASSWORD isn't its password: {fault}") from fault
+            why = "holds no certificate with its key, or OPENSEARCH_KEY_PASSWORD isn't its password"
+            raise ClusterError(f"{files.own} {why}: {fault}") from fault
     return trust
 
 
@@ -251,9 +268,15 @@ def add_certificate_options(add: Callable[..., object]) -> None:
     add("--client-key", metavar="FILE", help="its key, unless that is in the same file")
 
 
-def certificates_of(parser: argparse.ArgumentParser, setting: argparse.Namespace, urls: Iterable[Url]) -> Certificates:
+def certificates_of(
+    parser: argparse.ArgumentParser, setting: argparse.Namespace, urls: Iterable[Url]
+) -> Certificates:
     """The files that these options name. They are for addresses that begin with https."""
-    given = [name for name in ("--ca-file", "--client-cert", "--client-key") if getattr(setting, name[2:].replace("-", "_")) is not None]
+    given = [
+        name
+        for name in ("--ca-file", "--client-cert", "--client-key")
+        if getattr(setting, name[2:].replace("-", "_")) is not None
+    ]
     if given and all(it.scheme != "https" for it in urls):
         parser.error(f"{given[0]} is for an address that begins with https")
     if setting.client_key is not None and setting.client_cert is None:

@@ -24,7 +24,8 @@ PATIENCE = 0.3
 
 
 def usage_name(package: str) -> Optional[str]:
-    """The name of a command in its usage: that of its package if it is run as a module, else the one that it was called by."""
+    """The name of a command in its usage: that of its package if it is run as a module, else the one that it
+    was called by."""
     return f"{package}.py" if os.path.basename(sys.argv[0]) == "__main__.py" else None
 
 
@@ -51,7 +52,8 @@ def tell(text: str, descriptor: int = 2, seconds: float = 0.0) -> bool:
 
 
 def tell_line(text: str) -> None:
-    """Writes a line of the proxy on standard error. On a terminal it takes the place of the line of progress."""
+    """Writes a line of the proxy on standard error. On a terminal it takes the place of the line of
+    progress."""
     start = CLEARED if os.isatty(2) else ""
     tell(f"{start}casbench_recording.proxy: {escaped(text)}\n")
 
@@ -61,7 +63,11 @@ def tell_fault() -> None:
     kind, fault, trace = sys.exc_info()
     while trace is not None and trace.tb_next is not None:
         trace = trace.tb_next
-    place = f"{os.path.basename(trace.tb_frame.f_code.co_filename)}:{trace.tb_lineno}" if trace is not None else "nowhere"
+    place = (
+        f"{os.path.basename(trace.tb_frame.f_code.co_filename)}:{trace.tb_lineno}"
+        if trace is not None
+        else "nowhere"
+    )
     tell_line(f"a fault at {place}: {kind.__name__ if kind else ''}: {str(fault)[:1000]}")
 
 

@@ -1,4 +1,5 @@
-"""Which reading fits an index, by the copies that the cluster describes, and how that is reported to the operator."""
+"""Which reading fits an index, by the copies that the cluster describes, and how that is reported to the
+operator."""
 
 from typing import Callable, Optional
 
@@ -12,8 +13,8 @@ from .index_inspection import Shape
 def reading_that_fits(shape: Shape, served: int) -> Reading:
     """The reading that fits an index whose clients are served by so many nodes.
 
-    With replicas any copy may answer a get, and another one be promoted; between several nodes a write may be sent again. One copy on one
-    node promises what a strict check asks.
+    With replicas any copy may answer a get, and another one be promoted; between several nodes a write may be
+    sent again. One copy on one node promises what a strict check asks.
     """
     return OPENSEARCH if shape.has_replicas or max(shape.nodes, served) > 1 else STRICT
 
@@ -33,8 +34,8 @@ def check_of(out: str, history: Histories) -> str:
 
 
 class DefaultReading:
-    """Which check fits a recording. It is reported once the index is known; without an option of its own it is the reading of the recording
-    and of the watch."""
+    """Which check fits a recording. It is reported once the index is known; without an option of its own it
+    is the reading of the recording and of the watch."""
 
     def __init__(self, out: str, history: Histories, served: int, is_named: bool) -> None:
         self._command = check_of(out, history)
@@ -46,12 +47,14 @@ class DefaultReading:
         self.on_reading: Callable[[Reading], object] = lambda reading: None
 
     def take(self, shape: Shape, tell: Callable[[str], object]) -> None:
-        """Takes what the index is, before its first call, and reports which check fits unless that is the one without options."""
+        """Takes what the index is, before its first call, and reports which check fits unless that is the one
+        without options."""
         if reading_that_fits(shape, self._served) == OPENSEARCH:
             self._take(reason_of(shape, self._served), tell)
 
     def take_unknown(self, why: str, tell: Callable[[str], object]) -> None:
-        """Takes it that nobody knows what the index is, for a reason: then that check fits which accuses less."""
+        """Takes it that nobody knows what the index is, for a reason: then that check fits which accuses
+        less."""
         self._take(f"what the index is isn't known ({why})", tell)
 
     def _take(self, why: str, tell: Callable[[str], object]) -> None:

@@ -4,9 +4,10 @@
     for 5 s: docker unpause node-2
     every 60 s
 
-The first line begins a disturbance, so many seconds after the recording began; the second ends it, so many seconds later; the third has both
-done again and again, each so many seconds after the one before. Those without the second line end with their command, those without the
-third are done once. A plan has any number of disturbances, and lines that begin with `#`.
+The first line begins a disturbance, so many seconds after the recording began; the second ends it, so many
+seconds later; the third has both done again and again, each so many seconds after the one before. Those
+without the second line end with their command, those without the third are done once. A plan has any number
+of disturbances, and lines that begin with `#`.
 """
 
 import argparse
@@ -39,8 +40,8 @@ class PlanError(ValueError):
 
 @dataclass
 class Disturbance:
-    """The command that begins it, how many seconds after the recording began; the one that ends it, how many seconds later, if there is one;
-    and how many seconds lie between two beginnings, if there are several."""
+    """The command that begins it, how many seconds after the recording began; the one that ends it, how many
+    seconds later, if there is one; and how many seconds lie between two beginnings, if there are several."""
 
     after: float
     begin: str
@@ -94,8 +95,8 @@ def read_plan(path: str) -> List[Disturbance]:
 
 
 class Disturber:
-    """Follows a plan while its block runs, on a thread of its own if anything is planned. What was begun is ended with the
-    block, however that ends."""
+    """Follows a plan while its block runs, on a thread of its own if anything is planned. What was begun is
+    ended with the block, however that ends."""
 
     def __init__(self, plan: List[Disturbance], note: Report, report: Report) -> None:
         self._plan = plan
@@ -123,7 +124,9 @@ class Disturber:
     def _follow(self) -> None:
         """Does what is due, until the block ends or nothing is left to do."""
         began = time.monotonic()
-        steps: List[Tuple[float, int, bool]] = [(it.after, number, True) for number, it in enumerate(self._plan)]
+        steps: List[Tuple[float, int, bool]] = [
+            (it.after, number, True) for number, it in enumerate(self._plan)
+        ]
         heapq.heapify(steps)
         while steps:
             at, number, is_begin = heapq.heappop(steps)
@@ -175,11 +178,17 @@ class Disturber:
 
 
 def fault_of(command: str) -> str:
-    """Runs a command by the shell; why it failed, or nothing. It is in a session of its own, so that Ctrl-C doesn't reach it."""
+    """Runs a command by the shell; why it failed, or nothing. It is in a session of its own, so that Ctrl-C
+    doesn't reach it."""
     with tempfile.TemporaryFile() as output:
-        pipes = {"stdin": subprocess.DEVNULL, "stdout": output, "stderr": subprocess.STDOUT}
         try:
-            process = subprocess.Popen(["/bin/sh", "-c", command], start_new_session=True, **pipes)  # type: ignore[call-overload]
+            process = subprocess.Popen(
+                ["/bin/sh", "-c", command],
+                stdin=subprocess.DEVNULL,
+                stdout=output,
+                stderr=subprocess.STDOUT,
+                start_new_session=True,
+            )
             status = process.wait(LONGEST_COMMAND)
         except OSError as fault:
             return str(fault.strerror)

@@ -1,7 +1,7 @@
 """HTTP/1.1 as it stands on a connection: the heads of messages, and where their bodies end.
 
-Bytes are only looked at here and never changed, so that they can be passed on as they came. What two readers could take
-for messages of different lengths is refused.
+Bytes are only looked at here and never changed, so that they can be passed on as they came. What two readers
+could take for messages of different lengths is refused.
 """
 
 import functools
@@ -32,7 +32,11 @@ MOST_TRAILERS = 65_536
 TOKEN = rb"[!#$%&'*+.^_`|~0-9A-Za-z-]+"
 VALUE = rb"[\t -~\x80-\xff]*"
 
-FIELD = re.compile(rb"\r\n(content-length|transfer-encoding|content-encoding|expect|x-opaque-id|upgrade|http2-settings):[ \t]*([^\r\n]*)", re.IGNORECASE)
+FIELD = re.compile(
+    rb"\r\n(content-length|transfer-encoding|content-encoding|expect|x-opaque-id|upgrade|http2-settings)"
+    rb":[ \t]*([^\r\n]*)",
+    re.IGNORECASE,
+)
 FIELDS = re.compile(rb"(?:\r\n" + TOKEN + rb":" + VALUE + rb")*\r\n\r\n")
 TRAILER = re.compile(TOKEN + rb":" + VALUE)
 CHUNK_LINE = re.compile(rb"([0-9a-fA-F]{1,15})[ \t]*(?:;" + VALUE + rb")?")
@@ -50,7 +54,8 @@ class BadMessage(Exception):
 
 
 class Body:
-    """The body of a message, whose bytes are handed in as they come. Its content is kept, unless somebody says otherwise."""
+    """The body of a message, whose bytes are handed in as they come. Its content is kept, unless somebody
+    says otherwise."""
 
     is_done = False
     is_kept = True
@@ -199,9 +204,11 @@ class Response:
     def __init__(self, status: int, fields: Fields) -> None:
         self.status = status
         self.fields = fields
-        # how many bytes the body has, unless it answers a HEAD, or None if that comes only after the head. With some statuses there is
-        # none, whatever the head says of its length
-        self.length = 0 if status < 200 or status in (204, 304) else None if fields.is_chunked else fields.length
+        # how many bytes the body has, unless it answers a HEAD, or None if that comes only after the head.
+        # With some statuses there is none, whatever the head says of its length
+        self.length = (
+            0 if status < 200 or status in (204, 304) else None if fields.is_chunked else fields.length
+        )
 
     def length_for(self, method: str) -> Optional[int]:
         """The length of the body in the answer to this method."""
@@ -216,8 +223,8 @@ class Response:
 
 
 def fields_of(head: bytes, is_old: bool) -> Fields:
-    """The fields of a head, from the end of its first line on. A field that is told twice with two values, or on two lines, is
-    refused, and so is what isn't a field, and what the version of HTTP doesn't have."""
+    """The fields of a head, from the end of its first line on. A field that is told twice with two values, or
+    on two lines, is refused, and so is what isn't a field, and what the version of HTTP doesn't have."""
     if FIELDS.fullmatch(head) is None:
         raise BadMessage("a line of the head is no field")
     length: Optional[int] = None
@@ -252,7 +259,7 @@ remembered_fields = functools.lru_cache(maxsize=MOST_REMEMBERED)(fields_of)
 
 def fields_behind(head: bytes, is_old: bool) -> Fields:
     """The fields behind the first line of a head."""
-    return (remembered_fields if len(head) <= LONGEST_REMEMBERED else fields_of)(head, is_old)
+    return remembered_fields(head, is_old) if len(head) <= LONGEST_REMEMBERED else fields_of(head, is_old)
 
 
 def read_request(head: bytes) -> Request:
@@ -278,7 +285,7 @@ remembered_response = functools.lru_cache(maxsize=MOST_REMEMBERED)(read_response
 
 def request_of(head: bytes) -> Request:
     """Reads the head of a request, or remembers it."""
-    return (remembered_request if len(head) <= LONGEST_REMEMBERED else read_request)(head)
+    return remembered_request(head) if len(head) <= LONGEST_REMEMBERED else read_request(head)
 
 
 def without_empty_lines(data: bytes) -> bytes:
@@ -288,8 +295,8 @@ def without_empty_lines(data: bytes) -> bytes:
 
 
 def passed_head(head: bytes, host: bytes) -> bytes:
-    """The head of a request as it is passed on: without the offer to go on in another protocol, such as h2c, which is for the next server
-    alone; and with this host, if it is one."""
+    """The head of a request as it is passed on: without the offer to go on in another protocol, such as h2c,
+    which is for the next server alone; and with this host, if it is one."""
     head = CONNECTION.sub(without_upgrade_options, OF_AN_UPGRADE.sub(b"", head))
     return HOST.sub(lambda field: field[1] + host, head) if host else head
 
@@ -312,13 +319,15 @@ def head_end(data: bytes) -> int:
 
 
 def split_head(data: bytes) -> Tuple[bytes, bytes]:
-    """The head at the front of the bytes, its end with it, and what stands behind it; no head where it isn't whole yet."""
+    """The head at the front of the bytes, its end with it, and what stands behind it; no head where it isn't
+    whole yet."""
     end = head_end(data)
     return data[:end], data[end:]
 
 
 def decoded(content: bytes, encoding: bytes, most: int) -> Optional[bytes]:
-    """The content without its encoding, or None where that isn't known, is broken, or hides more bytes than the most."""
+    """The content without its encoding, or None where that isn't known, is broken, or hides more bytes than
+    the most."""
     if encoding in (b"", b"identity"):
         return content if len(content) <= most else None
     decoder = decoder_of(encoding)

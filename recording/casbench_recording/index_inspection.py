@@ -1,4 +1,5 @@
-"""What a cluster tells of an index before it is recorded: its names and its shards, and what would keep it from being judged."""
+"""What a cluster tells of an index before it is recorded: its names and its shards, and what would keep it
+from being judged."""
 
 import urllib.parse
 from enum import Enum
@@ -34,9 +35,10 @@ class RightMissing(ClusterError):
 
 
 class Shape(NamedTuple):
-    """An index: its own name, all names by which it is reached, its shards, whether nothing was ever written to it, how many changes were
-    made of its documents; how many replicas it has, whether their number follows that of the nodes, and how they are kept; and how many
-    nodes the cluster has, as far as the user may know."""
+    """An index: its own name, all names by which it is reached, its shards, whether nothing was ever written
+    to it, how many changes were made of its documents; how many replicas it has, whether their number follows
+    that of the nodes, and how they are kept; and how many nodes the cluster has, as far as the user may
+    know."""
 
     name: str
     names: Names
@@ -66,7 +68,8 @@ class Inspector:
         self.connection = connection
 
     def inspect(self, name: str) -> Optional[Shape]:
-        """What the index is, or None where there is none. Raises ClusterError where it can't be judged, or isn't told in time."""
+        """What the index is, or None where there is none. Raises ClusterError where it can't be judged, or
+        isn't told in time."""
         with self.connection.within(SECONDS):
             return self.look(name)
 
@@ -81,7 +84,9 @@ class Inspector:
         try:
             return self.shape(name, index, described)
         except (KeyError, TypeError, ValueError, AttributeError) as fault:
-            raise ClusterError(f"what the cluster tells of {name} is not what OpenSearch tells: {fault!r}") from fault
+            raise ClusterError(
+                f"what the cluster tells of {name} is not what OpenSearch tells: {fault!r}"
+            ) from fault
 
     def shape(self, name: str, index: str, described: Dict[str, Any]) -> Shape:
         """What an index is that was asked for by this name and described."""
@@ -91,7 +96,10 @@ class Inspector:
         routing_shards = self.routing_shards(index) if shards > 1 else 1
         names = names_of(name, index, described.get("aliases", {}))
         changes = self.changes(index)
-        replicas, is_expanding = int(settings.get("number_of_replicas", 0)), settings.get("auto_expand_replicas", "false") != "false"
+        replicas, is_expanding = (
+            int(settings.get("number_of_replicas", 0)),
+            settings.get("auto_expand_replicas", "false") != "false",
+        )
         copies = (replicas, is_expanding, settings.get("replication.type", "DOCUMENT"))
         # (a real cluster gives each index a number of replicas; if there are some the nodes don't matter)
         nodes = self.nodes() if settings.get("number_of_replicas") == "0" and not is_expanding else 1
@@ -100,13 +108,19 @@ class Inspector:
         return shape
 
     def check_rights(self, name: str) -> None:
-        """Asks what is asked of an index with several shards once it is there, so that a right that is missing is reported now."""
+        """Asks what is asked of an index with several shards once it is there, so that a right that is
+        missing is reported now."""
         with self.connection.within(SECONDS):
-            for path, right in ((stats_of(name), Right.CHANGES), (state_of(name), Right.STATE), (shards_of(name, 0), Right.SHARDS)):
+            for path, right in (
+                (stats_of(name), Right.CHANGES),
+                (state_of(name), Right.STATE),
+                (shards_of(name, 0), Right.SHARDS),
+            ):
                 self.answer(path, right)
 
     def answer(self, path: str, right: Right) -> ClusterAnswer:
-        """The cluster's answer to a question that needs this right. Raises ClusterError if none comes, or who asks doesn't have it."""
+        """The cluster's answer to a question that needs this right. Raises ClusterError if none comes, or who
+        asks doesn't have it."""
         try:
             self.connection.open(0)
             answer = self.connection.ask("GET", path)
@@ -115,7 +129,9 @@ class Inspector:
         if answer.status == 401:
             raise ClusterError(f"the cluster refuses who asks (HTTP 401): see {WHO_ASKS}")
         if answer.status == 403:
-            raise RightMissing(f"the user lacks the right {right.value}, which GET {path} needs (HTTP 403): see {WHO_ASKS}")
+            raise RightMissing(
+                f"the user lacks the right {right.value}, which GET {path} needs (HTTP 403): see {WHO_ASKS}"
+            )
         return answer
 
     def ask(self, path: str, right: Right) -> Optional[Dict[str, Any]]:
@@ -135,10 +151,13 @@ class Inspector:
         """How many sequence numbers the shards of the index gave, all together."""
         told = self.ask(stats_of(index), Right.CHANGES) or {}
         shards = told["indices"][index]["shards"]
-        return sum(max(int(copy["seq_no"]["max_seq_no"]) for copy in copies) + 1 for copies in shards.values())
+        return sum(
+            max(int(copy["seq_no"]["max_seq_no"]) for copy in copies) + 1 for copies in shards.values()
+        )
 
     def nodes(self) -> int:
-        """How many nodes the cluster has, or 1 if the user may not ask that, or the cluster has no such question."""
+        """How many nodes the cluster has, or 1 if the user may not ask that, or the cluster has no such
+        question."""
         try:
             answered = self.ask("/_cluster/health", Right.NODES)
         except RightMissing:
@@ -154,13 +173,15 @@ class Inspector:
         """Sees to it that shards are reckoned here as the cluster reckons them."""
         for number in range(PROBES if shape.shards > 1 else 0):
             told = self.ask(shards_of(shape.name, number), Right.SHARDS) or {}
-            if {copy["shard"] for copies in told["shards"] for copy in copies} != {shape.shard_of(f"casbench-{number}")}:
+            if {copy["shard"] for copies in told["shards"] for copy in copies} != {
+                shape.shard_of(f"casbench-{number}")
+            }:
                 raise ClusterError(f"the shards of {shape.name} are not reckoned as OpenSearch does it")
 
 
 def names_of(name: str, index: str, aliases: Dict[str, Any]) -> Names:
-    """The names of an index: its own, the one that it was asked for by, and its aliases, also those that lead to another one
-    too: where an answer is of that one it says so."""
+    """The names of an index: its own, the one that it was asked for by, and its aliases, also those that lead
+    to another one too: where an answer is of that one it says so."""
     for alias, told in aliases.items():
         if told.get("filter"):
             raise ClusterError(f"the alias {alias} has a filter: what is read by it can't be judged")
@@ -182,9 +203,13 @@ def refuse_changed_sources(name: str, settings: Dict[str, str], mappings: Dict[s
         if settings.get(key, "_none") != "_none":
             raise ClusterError(f"the index {name} has a {key}: what it keeps isn't what clients write")
     is_derived = settings.get("derived_source.enabled", "false") == "true"
-    has_vectors = settings.get("knn", "false") == "true" and settings.get("knn.derived_source.enabled", "true") == "true"
+    has_vectors = (
+        settings.get("knn", "false") == "true"
+        and settings.get("knn.derived_source.enabled", "true") == "true"
+    )
     if is_derived or has_vectors or "_source" in mappings:
-        raise ClusterError(f"the index {name} doesn't keep whole sources: what clients write can't be compared with what they read")
+        why = "what clients write can't be compared with what they read"
+        raise ClusterError(f"the index {name} doesn't keep whole sources: {why}")
 
 
 def stats_of(index: str) -> str:

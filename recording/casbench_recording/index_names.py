@@ -22,7 +22,8 @@ class Names:
         self.routed = frozenset(routed)
 
     def may_be_among(self, expression: str) -> bool:
-        """Whether an expression of several indexes, or of one that a date makes, may name the index. A very long one may."""
+        """Whether an expression of several indexes, or of one that a date makes, may name the index. A very
+        long one may."""
         if expression == "_all" or len(expression) > LONGEST_EXPRESSION:
             return True
         return any(self.has(pattern_of(it)) for it in expression.split(","))

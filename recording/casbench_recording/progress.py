@@ -1,4 +1,5 @@
-"""Reports on a terminal how far a recording is: every second the calls, those that were lost, and the calls of that second."""
+"""Reports on a terminal how far a recording is: every second the calls, those that were lost, and the calls
+of that second."""
 
 import contextlib
 import os
@@ -17,13 +18,18 @@ WIDTH = 80
 
 
 class Progress:
-    """A line that is written again every second while the block runs, with a remark at its end, if there is one.
+    """A line that is written again every second while the block runs, with a remark at its end, if there is
+    one.
 
     Nothing is written if the stream is no terminal.
     """
 
     def __init__(
-        self, counts: CountCalls, stream: Optional[IO[str]] = None, seconds: float = 1.0, remark: Callable[[], str] = lambda: ""
+        self,
+        counts: CountCalls,
+        stream: Optional[IO[str]] = None,
+        seconds: float = 1.0,
+        remark: Callable[[], str] = lambda: "",
     ) -> None:
         self._counts = counts
         self._remark = remark
@@ -50,11 +56,14 @@ class Progress:
             calls, lost = self._counts()
             remark = self._remark()
             rate = counted(round((calls - before) / self._seconds), "call")
-            self._write(f"{counted(calls, 'call')}, {lost} lost, {rate} a second{f', {remark}' if remark else ''}")
+            self._write(
+                f"{counted(calls, 'call')}, {lost} lost, {rate} a second{f', {remark}' if remark else ''}"
+            )
             before = calls
 
     def _write(self, line: str) -> None:
-        """Puts the line in the place of the one before, cut to the width of the terminal, if the terminal takes it."""
+        """Puts the line in the place of the one before, cut to the width of the terminal, if the terminal
+        takes it."""
         descriptor = self._stream.fileno()
         width = 0
         with contextlib.suppress(OSError):

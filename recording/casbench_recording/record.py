@@ -1,15 +1,17 @@
-"""Records what several clients ask of an OpenSearch cluster, and what it answers, as a history text for casbench.
+"""Records what several clients ask of an OpenSearch cluster, and what it answers, as a history text for
+casbench.
 
     python3 -m casbench_recording.record http://127.0.0.1:9200 carts carts.ndjson
     casbench check carts.ndjson
 
-The first makes an empty index of one shard, `carts`, has clients read and write a few documents of it at the same
-time, and writes each call and each reply to carts.ndjson. The second tells whether one order of all calls explains
-every reply. docs/RECORDING.md tells what the words mean, and the rules that a recorder has to keep. Each rule is kept
-at one place here; that place names it.
+The first makes an empty index of one shard, `carts`, has clients read and write a few documents of it at the
+same time, and writes each call and each reply to carts.ndjson. The second tells whether one order of all
+calls explains every reply. docs/RECORDING.md tells what the words mean, and the rules that a recorder has to
+keep. Each rule is kept at one place here; that place names it.
 
-Who asks is told by the environment alone, where the cluster wants to know: OPENSEARCH_USER with OPENSEARCH_PASSWORD, or
-OPENSEARCH_HEADER, a whole header such as `Authorization: Bearer ...`. Python 3.9 or later, nothing beside it.
+Who asks is told by the environment alone, where the cluster wants to know: OPENSEARCH_USER with
+OPENSEARCH_PASSWORD, or OPENSEARCH_HEADER, a whole header such as `Authorization: Bearer ...`. Python 3.9 or
+later, nothing beside it.
 """
 
 import argparse
@@ -61,7 +63,8 @@ OF_THE_PRIMARY = "primary"
 
 
 class LoadStop:
-    """What has all clients make no more calls: somebody asked for it, the watch found a fault, or the time is over."""
+    """What has all clients make no more calls: somebody asked for it, the watch found a fault, or the time is
+    over."""
 
     def __init__(self) -> None:
         self.is_set = False
@@ -74,7 +77,8 @@ class LoadStop:
         self.has_failed = False
 
     def ask(self, *_: object) -> None:
-        """Answers Ctrl-C, and a request to end. The second one doesn't wait any longer for calls that are open."""
+        """Answers Ctrl-C, and a request to end. The second one doesn't wait any longer for calls that are
+        open."""
         if self.was_asked:
             raise KeyboardInterrupt
         self.is_set = self.was_asked = True
@@ -113,18 +117,26 @@ def make_index(connection: Connection, setting: argparse.Namespace, index: str) 
     except NoAnswer as fault:
         raise ClusterError(f"the index {index} was asked for, and no answer came: {fault}") from fault
     told = answer.members
-    if answer.status != 200 or told.get("acknowledged") is not True or told.get("shards_acknowledged") is False:
+    if (
+        answer.status != 200
+        or told.get("acknowledged") is not True
+        or told.get("shards_acknowledged") is False
+    ):
         raise ClusterError(why_no_index(index, answer.status, told))
 
 
 def try_primary(connection: Connection, index: str) -> None:
-    """Sees to it that the cluster takes a get of the primary, as OpenSearch does since 2.4. Else each of them would be lost."""
+    """Sees to it that the cluster takes a get of the primary, as OpenSearch does since 2.4. Else each of them
+    would be lost."""
     try:
         answer = connection.ask("GET", f"/{index}/_doc/none?preference={PRIMARY}")
     except NoAnswer as fault:
-        raise ClusterError(f"the cluster was asked for a document of its primary, and no answer came: {fault}") from fault
+        raise ClusterError(
+            f"the cluster was asked for a document of its primary, and no answer came: {fault}"
+        ) from fault
     if answer.members.get("found") is not False:
-        raise ClusterError(f"the cluster doesn't take gets with preference={PRIMARY} (HTTP {answer.status}): OpenSearch does since 2.4")
+        refused = f"the cluster doesn't take gets with preference={PRIMARY} (HTTP {answer.status})"
+        raise ClusterError(f"{refused}: OpenSearch does since 2.4")
 
 
 def why_no_index(index: str, status: int, told: Dict[str, Any]) -> str:
@@ -149,7 +161,11 @@ def record(setting: argparse.Namespace) -> FinishedRecording:
     recording = recording_of(setting)
     with contextlib.ExitStack() as stack:
         stack.callback(recording.end)
-        watcher = stack.enter_context(WatchProcess(setting.file, watch_options(setting), stop.halt, tell_fault)) if setting.watch else None
+        watcher = (
+            stack.enter_context(WatchProcess(setting.file, watch_options(setting), stop.halt, tell_fault))
+            if setting.watch
+            else None
+        )
         # (before the watch ends, so that its last check has the last line)
         stack.enter_context(recording)
         stack.enter_context(Progress(lambda: (recording.calls, recording.lost)))
@@ -176,12 +192,14 @@ def record(setting: argparse.Namespace) -> FinishedRecording:
 
 
 def is_fitted(setting: argparse.Namespace) -> bool:
-    """Whether the reading is the one that fits the index, which isn't known before that is made: if one matters, and none is named."""
+    """Whether the reading is the one that fits the index, which isn't known before that is made: if one
+    matters, and none is named."""
     return (setting.watch or setting.part is not None) and not is_named(setting)
 
 
 def fit(setting: argparse.Namespace, recording: CallWriter, watcher: Optional[WatchProcess]) -> None:
-    """Has the recording and its watch take the reading that fits the index; if it can't be looked at, the one that accuses less."""
+    """Has the recording and its watch take the reading that fits the index; if it can't be looked at, the one
+    that accuses less."""
 
     def judge_in(reading: Reading) -> None:
         setting.reading = reading
@@ -206,7 +224,9 @@ def load_of(setting: argparse.Namespace, recording: CallWriter, stop: LoadStop) 
     """The clients. With several addresses one after the other takes the next of them, and stays there."""
     load = Load(recording, setting.seed, stop.is_over)
     store = ClusterStore(setting, load.is_over)
-    habits = Habits(setting.mixture, setting.documents, is_bound=True, calls=setting.calls, bulk_items=setting.bulk_items)
+    habits = Habits(
+        setting.mixture, setting.documents, is_bound=True, calls=setting.calls, bulk_items=setting.bulk_items
+    )
     load.add_clients(setting.clients, store, habits)
     return load
 
@@ -247,14 +267,25 @@ def urls_of(text: str) -> List[Url]:
 
 def parse_arguments(arguments: Optional[Sequence[str]]) -> argparse.Namespace:
     """Reads the arguments of the command; without any, those of the process."""
-    parser = argparse.ArgumentParser(description="Records clients of an OpenSearch cluster as a history for casbench.")
+    parser = argparse.ArgumentParser(
+        description="Records clients of an OpenSearch cluster as a history for casbench."
+    )
     add = parser.add_argument
-    add("urls", type=urls_of, metavar="URL[,URL..]", help="the cluster's address, as https://host:9200, or those of several nodes")
+    add(
+        "urls",
+        type=urls_of,
+        metavar="URL[,URL..]",
+        help="the cluster's address, as https://host:9200, or those of several nodes",
+    )
     add("index", help="the index that is made, and must not be there")
     add("file", help="the file that the history is written to, and must not be there")
     add("--clients", type=number_from(1), default=4, help="how many clients ask at once (4)")
     add("--documents", type=number_from(1), default=8, help="how many documents there are (8)")
-    add("--calls", type=number_from(1), help="how many calls each client makes (1000; any number with --seconds)")
+    add(
+        "--calls",
+        type=number_from(1),
+        help="how many calls each client makes (1000; any number with --seconds)",
+    )
     add("--seconds", type=number_from(0, float), help="after how many seconds no more calls are made")
     add("--seed", type=int, default=1, help="what the turns are drawn from (1)")
     add("--mixture", type=mixture_of, default=TURNS, help=f"how often each kind is drawn ({TURNS})")
@@ -264,7 +295,13 @@ def parse_arguments(arguments: Optional[Sequence[str]]) -> argparse.Namespace:
     add_part_options(add)
     add_reading_options(add, gets=OF_THE_PRIMARY)
     add_watch_options(add)
-    add("--disturb", type=read_plan, metavar="PLAN", default=[], help="run the commands of this plan meanwhile, to disturb the cluster")
+    add(
+        "--disturb",
+        type=read_plan,
+        metavar="PLAN",
+        default=[],
+        help="run the commands of this plan meanwhile, to disturb the cluster",
+    )
     add("--replicas", type=number_from(0), help="how many replicas the index has (the cluster's default)")
     add_certificate_options(add)
     setting = parser.parse_args(arguments)
@@ -284,12 +321,15 @@ def parse_arguments(arguments: Optional[Sequence[str]]) -> argparse.Namespace:
 
 
 def main(arguments: Optional[Sequence[str]] = None) -> int:
-    """Records by the words given, and returns the exit status: 0 recorded, 1 a named error, 3 the recording ended early, 4 it can't
-    be checked, 130 interrupted."""
+    """Records by the words given, and returns the exit status: 0 recorded, 1 a named error, 3 the recording
+    ended early, 4 it can't be checked, 130 interrupted."""
     setting = parse_arguments(arguments)
     try:
         credentials = credentials_of(os.environ)
-        setting.clusters = [ClusterAccess(it, setting.timeout, credentials, trust_of(it, setting.certificates)) for it in setting.urls]
+        setting.clusters = [
+            ClusterAccess(it, setting.timeout, credentials, trust_of(it, setting.certificates))
+            for it in setting.urls
+        ]
         recorded = record(setting)
     except (ClusterError, HistoryError, OSError) as fault:
         tell_fault(str(fault))
@@ -301,12 +341,15 @@ def main(arguments: Optional[Sequence[str]] = None) -> int:
         return 130
     recording, stop = recorded.recording, recorded.stop
     if recording.calls:
-        print(f"recorded {counted(recording.calls, 'call')} in {setting.file}, {recording.unanswered} of them without a reply")
+        calls = counted(recording.calls, "call")
+        print(f"recorded {calls} in {setting.file}, {recording.unanswered} of them without a reply")
     else:
         print("no call was made, so there is no file", file=sys.stderr)
     if stop.is_full:
         tell_fault(f"the recording ended early: {setting.file} is full; --parts records more, in parts")
-    return recorded.watched or (ENDED_EARLY if stop.is_full else 130 if stop.was_asked else int(stop.has_failed))
+    return recorded.watched or (
+        ENDED_EARLY if stop.is_full else 130 if stop.was_asked else int(stop.has_failed)
+    )
 
 
 if __name__ == "__main__":

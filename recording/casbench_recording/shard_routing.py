@@ -1,4 +1,5 @@
-"""Which shard a document is on, as OpenSearch reckons it from the document's id, or from a routing that a request names."""
+"""Which shard a document is on, as OpenSearch reckons it from the document's id, or from a routing that a
+request names."""
 
 PRIMARY = "_primary"
 """The preference of a get that the primary answers. OpenSearch takes it since 2.4."""
@@ -7,7 +8,8 @@ MASK = 0xFFFF_FFFF
 
 
 def shard_of(routing: str, shards: int, routing_shards: int) -> int:
-    """The shard, of so many, that a routing is on. The index's routing shards are a multiple of its shards."""
+    """The shard, of so many, that a routing is on. The index's routing shards are a multiple of its
+    shards."""
     return hash_of(routing) % routing_shards // (routing_shards // shards)
 
 

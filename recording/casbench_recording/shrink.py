@@ -2,11 +2,12 @@
 
     python3 -m casbench_recording.shrink carts.ndjson >few.ndjson
 
-It takes the options of a check, such as `--profile opensearch`. The answer of casbench to what is left is the same: `no` or `refuted`, of
-a refutation the kind and the calls of the evidence, of a `no` the call at whose reply the search fails. With `--witness FILE`, which shows
-that the `no` is a false alarm, the part of the witness that is of the calls that are left stays verified. Each line that is left stands as
-it was, in its order, and none of the calls can be left out alone. What is left is written at the end, and not if it would go into the
-history itself.
+It takes the options of a check, such as `--profile opensearch`. The answer of casbench to what is left is the
+same: `no` or `refuted`, of a refutation the kind and the calls of the evidence, of a `no` the call at whose
+reply the search fails. With `--witness FILE`, which shows that the `no` is a false alarm, the part of the
+witness that is of the calls that are left stays verified. Each line that is left stands as it was, in its
+order, and none of the calls can be left out alone. What is left is written at the end, and not if it would go
+into the history itself.
 """
 
 import argparse
@@ -29,8 +30,8 @@ class ShrinkError(Exception):
 
 
 class WantedAnswer(NamedTuple):
-    """What has to stay: the word, the kind of evidence, and the calls that are named. A `no` names one, and may be proved or not: it is if
-    of each write of the document the outcome is known."""
+    """What has to stay: the word, the kind of evidence, and the calls that are named. A `no` names one, and
+    may be proved or not: it is if of each write of the document the outcome is known."""
 
     word: str
     kind: str
@@ -56,12 +57,18 @@ class Program:
         with open(os.memfd_create("witness"), "wb") as file:
             file.write(witness)
             file.flush()
-            return self.run(["verify", "/dev/stdin", f"/dev/fd/{file.fileno()}", *self.reading.options()], text, [file.fileno()])
+            return self.run(
+                ["verify", "/dev/stdin", f"/dev/fd/{file.fileno()}", *self.reading.options()],
+                text,
+                [file.fileno()],
+            )
 
     def run(self, options: Sequence[str], text: bytes, files: Sequence[int] = ()) -> str:
         """The line that a command writes."""
         self.runs += 1
-        ran = subprocess.run([self.path, *options], input=text, stdout=subprocess.PIPE, stderr=subprocess.PIPE, pass_fds=files)
+        ran = subprocess.run(
+            [self.path, *options], input=text, stdout=subprocess.PIPE, stderr=subprocess.PIPE, pass_fds=files
+        )
         if ran.returncode > 2:
             raise ShrinkError(f"{self.path}: {ran.stderr.decode(errors='replace').strip()}")
         return ran.stdout.decode()
@@ -100,11 +107,14 @@ class Shrinker:
             return WantedAnswer(word, fields.get("kind", ""), calls, True)
         number = int(fields["call"])
         id = self.calls[number].id
-        is_proved = all(self.recorded.is_decided(it) for it in map(self.calls.__getitem__, kept) if it.id == id)
+        is_proved = all(
+            self.recorded.is_decided(it) for it in map(self.calls.__getitem__, kept) if it.id == id
+        )
         return WantedAnswer(word, "", (number,), is_proved)
 
     def calls_by_version(self) -> Dict[VersionKey, List[int]]:
-        """The calls that stand on each version: gets that found it, and writes that were performed under its pair."""
+        """The calls that stand on each version: gets that found it, and writes that were performed under its
+        pair."""
         readers: Dict[VersionKey, List[int]] = {}
         for number, it in self.calls.items():
             if it.stands_on is not None:
@@ -112,11 +122,14 @@ class Shrinker:
         return readers
 
     def gets_the_same(self, kept: Set[int]) -> bool:
-        """Whether the history of these calls gets the answer that is wanted, and its part of the witness is valid."""
+        """Whether the history of these calls gets the answer that is wanted, and its part of the witness is
+        valid."""
         if not kept.issuperset(self.wanted.calls):
             return False
         text = self.recorded.text_of(kept)
-        if self.has_witness and not self.program.verified(text, self.recorded.witness_of(kept)).startswith("verified "):
+        if self.has_witness and not self.program.verified(text, self.recorded.witness_of(kept)).startswith(
+            "verified "
+        ):
             return False
         return self.read_answer(self.program.answer(text), kept) == self.wanted
 
@@ -132,7 +145,8 @@ class Shrinker:
         return self.keep(self.kept.difference(numbers))
 
     def shrink(self) -> None:
-        """Leaves out what can be left out: all but a window, documents, what came later, then calls by many and by one."""
+        """Leaves out what can be left out: all but a window, documents, what came later, then calls by many
+        and by one."""
         self.keep_a_window()
         named = {self.calls[it].id for it in self.wanted.calls}
         self.leave_out([it for it in self.kept if self.calls[it].id not in named])
@@ -148,8 +162,10 @@ class Shrinker:
         return max(it.line if it.ending is None else it.ending for it in named)
 
     def keep_a_window(self) -> None:
-        """Keeps the named calls with the writers of what they show, or these with a window of the calls before the last of them, the smallest
-        that gets the same answer: of their documents, or of all. So the program never reads most of a long history again."""
+        """Keeps the named calls with the writers of what they show, or these with a window of the calls
+        before the last of them, the smallest that gets the same answer: of their documents, or of all. So the
+        program never reads most of a long history again.
+        """
         makers = [self.maker_of(self.calls[it]) for it in self.wanted.calls]
         base = {*self.wanted.calls, *(it for it in makers if it is not None)}
         if self.keep(base):
@@ -166,12 +182,14 @@ class Shrinker:
             size *= WINDOW_FACTOR
 
     def closed(self, base: Set[int], window: Sequence[ParsedCall], beginnings: Beginnings) -> Set[int]:
-        """The calls of the base, those that made the documents which are there when a window begins, and the calls of the window that stand on
-        no write outside of these."""
+        """The calls of the base, those that made the documents which are there when a window begins, and the
+        calls of the window that stand on no write outside of these."""
         makers = (beginnings.maker_at(id, window[0].line) for id in {it.id for it in window})
         kept = base.union(it for it in makers if it is not None)
         inside = kept.union(it.number for it in window)
-        outside = [it.number for it in window if self.maker_of(it) not in inside and self.maker_of(it) is not None]
+        outside = [
+            it.number for it in window if self.maker_of(it) not in inside and self.maker_of(it) is not None
+        ]
         return inside.difference(self.with_readers(outside, inside) - kept)
 
     def maker_of(self, call: ParsedCall) -> Optional[int]:
@@ -179,7 +197,8 @@ class Shrinker:
         return None if call.stands_on is None else self.makers.get(call.stands_on)
 
     def with_readers(self, numbers: Iterable[int], among: Set[int]) -> Set[int]:
-        """The calls with all that stand on what they made, and so on: without those these would show what nobody wrote."""
+        """The calls with all that stand on what they made, and so on: without those these would show what
+        nobody wrote."""
         found: Set[int] = set()
         left = list(numbers)
         while left:
@@ -191,12 +210,15 @@ class Shrinker:
         return found
 
     def leave_out_pieces(self, size: int) -> bool:
-        """Tries to leave out each so many calls, in the order in which they stand, the last ones first; tells whether any are gone."""
+        """Tries to leave out each so many calls, in the order in which they stand, the last ones first; tells
+        whether any are gone."""
         is_any_gone = False
         order = [it.number for it in self.recorded.in_order(self.kept)]
         for start in range(len(order) - 1, -1, -size):
             piece = [it for it in order[max(0, start - size + 1) : start + 1] if it in self.kept]
-            is_gone = bool(piece) and (self.leave_out(self.with_readers(piece, self.kept)) or size == 1 and self.leave_out(piece))
+            is_gone = bool(piece) and (
+                self.leave_out(self.with_readers(piece, self.kept)) or size == 1 and self.leave_out(piece)
+            )
             is_any_gone = is_any_gone or is_gone
         return is_any_gone
 
@@ -208,7 +230,9 @@ def program_at_hand() -> str:
     """The program: that of the checkout in which the command is run, else the one on the path."""
     if os.access("./casbench", os.X_OK):
         # (the script tells which program it runs, and the program itself has no such word)
-        ran = subprocess.run(["./casbench", "--program"], stdout=subprocess.PIPE, stderr=subprocess.DEVNULL, text=True)
+        ran = subprocess.run(
+            ["./casbench", "--program"], stdout=subprocess.PIPE, stderr=subprocess.DEVNULL, text=True
+        )
         return ran.stdout.strip() if ran.returncode == 0 else "./casbench"
     found = shutil.which("casbench")
     if found is None:
@@ -218,13 +242,19 @@ def program_at_hand() -> str:
 
 def parse_arguments(arguments: Optional[Sequence[str]]) -> argparse.Namespace:
     """Reads the arguments of the command; without any, those of the process."""
-    parser = argparse.ArgumentParser(description="Cuts a history down to few calls that get the same answer from casbench, and prints it.")
+    parser = argparse.ArgumentParser(
+        description="Cuts a history down to few calls that get the same answer from casbench, and prints it."
+    )
     add = parser.add_argument
     add("file", help="the history")
     add("--program", help="the casbench that is asked (./casbench, or that on the path)")
     add("--rule-out", action="store_true", help="as for a check")
     add_reading_options(add)
-    add("--witness", help="a witness of the history, which shows that a no is a false alarm: its part that is left stays verified")
+    add(
+        "--witness",
+        help="a witness of the history, which shows that a no is a false alarm: its part of the calls that "
+        "are left stays verified",
+    )
     add("--few-witness", help="a file that this part is written to, and must not be there")
     setting = parser.parse_args(arguments)
     if setting.few_witness and not setting.witness:
@@ -233,7 +263,8 @@ def parse_arguments(arguments: Optional[Sequence[str]]) -> argparse.Namespace:
 
 
 def refuse_as_output(history: BinaryIO) -> None:
-    """Refuses a history that standard output goes to, by whatever name it was opened: what is written would be written into it."""
+    """Refuses a history that standard output goes to, by whatever name it was opened: what is written would
+    be written into it."""
     its = os.fstat(history.fileno())
     if stat.S_ISREG(its.st_mode) and os.path.samestat(its, os.fstat(sys.stdout.fileno())):
         raise ShrinkError(f"{history.name}: the history would be overwritten")
@@ -254,7 +285,8 @@ def read_file(path: Optional[str]) -> Optional[bytes]:
 
 
 def main(arguments: Optional[Sequence[str]] = None) -> int:
-    """Cuts down by the words given, and returns the exit status: 0, or 1 if there is nothing to cut down, or it can't be written."""
+    """Cuts down by the words given, and returns the exit status: 0, or 1 if there is nothing to cut down, or
+    it can't be written."""
     setting = parse_arguments(arguments)
     try:
         program = Program(setting.program or program_at_hand(), reading_of(setting), is_ruling_out(setting))
@@ -269,7 +301,10 @@ def main(arguments: Optional[Sequence[str]] = None) -> int:
     except (ShrinkError, OSError) as fault:
         print(f"shrink.py: {fault}", file=sys.stderr)
         return 1
-    print(f"{shrinker.before} calls, {len(shrinker.kept)} of them left, after {program.runs} checks", file=sys.stderr)
+    print(
+        f"{shrinker.before} calls, {len(shrinker.kept)} of them left, after {program.runs} checks",
+        file=sys.stderr,
+    )
     return 0
 
 

@@ -2,11 +2,12 @@
 
     python3 -m casbench_recording.split carts.ndjson parts
 
-Writes parts/shard-0.ndjson and so on, one file for each shard that a call names. Each line goes, as it stands and in
-its order, to the file of its call's shard. So a part is a history text itself, and the history is right exactly where
-each part is (docs/RECORDING.md). What the parts can't show by themselves is looked at here: that each ending is of a
-call that is open, and that no document is on two shards. The folder has its name only once all lines are in it: where
-one can't be given to a shard, or can't be written, or the split is interrupted, there is none.
+Writes parts/shard-0.ndjson and so on, one file for each shard that a call names. Each line goes, as it stands
+and in its order, to the file of its call's shard. So a part is a history text itself, and the history is
+right exactly where each part is (docs/RECORDING.md). What the parts can't show by themselves is looked at
+here: that each ending is of a call that is open, and that no document is on two shards. The folder has its
+name only once all lines are in it: where one can't be given to a shard, or can't be written, or the split is
+interrupted, there is none.
 """
 
 import argparse
@@ -27,7 +28,8 @@ class Shards:
         self.of_documents: Dict[str, int] = {}
 
     def of_line(self, event: Dict[str, Any]) -> int:
-        """The shard of an event's call. Raises ValueError, KeyError or TypeError where it is no event at this place."""
+        """The shard of an event's call. Raises ValueError, KeyError or TypeError where it is no event at this
+        place."""
         number = event["n"]
         if event["e"] != "call":
             return self.of_open_calls.pop(number)
@@ -63,7 +65,8 @@ def split(lines: Iterable[bytes], folder: str) -> None:
 
 @contextlib.contextmanager
 def named_at_last(folder: str) -> Iterator[str]:
-    """A new folder beside the one that is named, whose name it gets at the end of the block; after a fault nothing is left of it.
+    """A new folder beside the one that is named, whose name it gets at the end of the block; after a fault
+    nothing is left of it.
 
     What has the name already is refused, and left alone.
     """
@@ -81,10 +84,13 @@ def named_at_last(folder: str) -> Iterator[str]:
 
 
 def main(arguments: Optional[Sequence[str]] = None) -> int:
-    """Splits the history that is named into files of the folder that is named, which is made. Returns the exit status."""
+    """Splits the history that is named into files of the folder that is named, which is made. Returns the
+    exit status."""
     parser = argparse.ArgumentParser(description="Splits a history by shard.")
     parser.add_argument("history", metavar="HISTORY", help="the history, a file")
-    parser.add_argument("folder", metavar="FOLDER", help="the folder that is made, with a file for each shard")
+    parser.add_argument(
+        "folder", metavar="FOLDER", help="the folder that is made, with a file for each shard"
+    )
     setting = parser.parse_args(arguments)
     try:
         with open(setting.history, "rb") as lines, named_at_last(setting.folder) as parts:
@@ -93,7 +99,12 @@ def main(arguments: Optional[Sequence[str]] = None) -> int:
         print(f"split_by_shard.py: {fault}", file=sys.stderr)
         return 1
     except OSError as fault:
-        print(f"split_by_shard.py: {fault.filename}: {fault.strerror}" if fault.filename else f"split_by_shard.py: {fault}", file=sys.stderr)
+        print(
+            f"split_by_shard.py: {fault.filename}: {fault.strerror}"
+            if fault.filename
+            else f"split_by_shard.py: {fault}",
+            file=sys.stderr,
+        )
         return 1
     except KeyboardInterrupt:
         return 130

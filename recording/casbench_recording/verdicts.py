@@ -2,9 +2,10 @@
 
     python3 -m casbench_recording.verdicts parts
 
-For each parts/NAME.ndjson a job has written parts/NAME.ndjson.verdict: the output of `casbench check --json`, and on the last line the
-exit status. If the histories are those of the shards of a recording, one for each, an order of all calls explains the recording exactly
-if each history is explained (docs/RECORDING.md). A history without a verdict, or whose verdict is older than it, was not judged.
+For each parts/NAME.ndjson a job has written parts/NAME.ndjson.verdict: the output of `casbench check --json`,
+and on the last line the exit status. If the histories are those of the shards of a recording, one for each,
+an order of all calls explains the recording exactly if each history is explained (docs/RECORDING.md). A
+history without a verdict, or whose verdict is older than it, was not judged.
 """
 
 import argparse
@@ -17,14 +18,19 @@ from typing import Any, Dict, List, NamedTuple, Optional, Sequence, Tuple
 SUFFIX, OF_A_VERDICT = ".ndjson", ".verdict"
 
 SEVERITY = (3, 4, 5, 1, 2, 6, 0)
-"""The exit statuses of checks, the gravest first: not judged (3, 4, 5), not explained, refused, too few calls, explained."""
+"""The exit statuses of checks, the gravest first: not judged (3, 4, 5), not explained, refused, too few
+calls, explained."""
 
 NOT_JUDGED, NOT_EXPLAINED, REFUSED, TOO_FEW, EXPLAINED = 4, 1, 2, 6, 0
 
 ANSWERS = {EXPLAINED: {"yes"}, TOO_FEW: {"yes"}, NOT_EXPLAINED: {"no", "refuted"}, REFUSED: {"refused"}}
 """The answers that a check may print with each exit status."""
 
-MEMBERS = {"no": ("event", "call", "before"), "refuted": ("kind", "calls", "event", "call", "before"), "refused": ("line", "cause")}
+MEMBERS = {
+    "no": ("event", "call", "before"),
+    "refuted": ("kind", "calls", "event", "call", "before"),
+    "refused": ("line", "cause"),
+}
 """The members that the line of an answer has, in order."""
 
 COUNTS = ("docs", "calls", "left_out", "gets")
@@ -49,7 +55,11 @@ class Verdict(NamedTuple):
         """The line that a check without `--json` prints."""
         if self.fault:
             return f"{self.file}: {self.fault}"
-        values = counts_of(self.answer) if self.word == "yes" else {key: self.answer[key] for key in MEMBERS[self.word]}
+        values = (
+            counts_of(self.answer)
+            if self.word == "yes"
+            else {key: self.answer[key] for key in MEMBERS[self.word]}
+        )
         few = ", fewer calls than asked for" if self.status == TOO_FEW else ""
         return f"{self.file}: {line_of(self.word, values)}{few}"
 
@@ -78,7 +88,12 @@ def verdict_of(history: str) -> Verdict:
     status = int(last) if last.isdecimal() else NOT_JUDGED
     answer = answer_of(status, printed)
     if answer is None:
-        return Verdict(file, status if status in (3, 5) else NOT_JUDGED, {}, f"the check failed, with status {last or 'unknown'}")
+        return Verdict(
+            file,
+            status if status in (3, 5) else NOT_JUDGED,
+            {},
+            f"the check failed, with status {last or 'unknown'}",
+        )
     return Verdict(file, status, answer)
 
 
@@ -89,7 +104,9 @@ def answer_of(status: int, printed: Sequence[str]) -> Optional[Dict[str, Any]]:
         word = answer["answer"]
         needed = answer["counts"] if word == "yes" else answer
         is_whole = all(it in needed for it in (COUNTS[:3] if word == "yes" else MEMBERS[word]))
-        is_whole = is_whole and (word != "yes" or all(isinstance(it, int) for it in counts_of(answer).values()))
+        is_whole = is_whole and (
+            word != "yes" or all(isinstance(it, int) for it in counts_of(answer).values())
+        )
     except (ValueError, KeyError, TypeError, RecursionError):
         return None
     return answer if word in ANSWERS.get(status, ()) and is_whole else None
@@ -104,8 +121,12 @@ def together(verdicts: Sequence[Verdict], at_least: int) -> Tuple[int, str]:
     status = min((it.status for it in verdicts), key=SEVERITY.index)
     words = Counter(it.word for it in verdicts)
     if status not in (EXPLAINED, TOO_FEW):
-        word = next(it for it in ("not judged", "refuted", "no", "refused") if words[it] and status_fits(it, status))
-        return status, f"{word}: of {len(verdicts)} histories " + ", ".join(f"{count} {it}" for it, count in sorted(words.items()))
+        word = next(
+            it for it in ("not judged", "refuted", "no", "refused") if words[it] and status_fits(it, status)
+        )
+        return status, f"{word}: of {len(verdicts)} histories " + ", ".join(
+            f"{count} {it}" for it, count in sorted(words.items())
+        )
     counts: Dict[str, int] = {"histories": len(verdicts)}
     for it in verdicts:
         for key, value in counts_of(it.answer).items():
@@ -130,8 +151,18 @@ def histories_of(folder: str) -> List[str]:
 def main() -> int:
     """Prints the verdicts that aren't `yes`, and then that of all; returns the status of the gravest."""
     parser = argparse.ArgumentParser(description="Puts the verdicts of a folder's histories together.")
-    parser.add_argument("folder", metavar="DIR", help="the folder of the histories, *.ndjson, and of their verdicts, *.ndjson.verdict")
-    parser.add_argument("--at-least", type=int, default=0, metavar="CALLS", help="of all histories together; a yes with fewer has status 6")
+    parser.add_argument(
+        "folder",
+        metavar="DIR",
+        help="the folder of the histories, *.ndjson, and of their verdicts, *.ndjson.verdict",
+    )
+    parser.add_argument(
+        "--at-least",
+        type=int,
+        default=0,
+        metavar="CALLS",
+        help="of all histories together; a yes with fewer has status 6",
+    )
     options = parser.parse_args()
     sys.stdout.reconfigure(errors="backslashreplace")  # type: ignore[attr-defined]
     try:

@@ -1,9 +1,10 @@
-"""Checks a witness without casbench; and the functions with which a recorder makes one from the log of its store.
+"""Checks a witness without casbench; and the functions with which a recorder makes one from the log of its
+store.
 
     python3 -m casbench_recording.witness check HISTORY WITNESS
 
-prints what `casbench verify` prints and, if the witness isn't valid, a sentence about the calls. It takes the options of a reading, such as
-`--profile opensearch`.
+prints what `casbench verify` prints and, if the witness isn't valid, a sentence about the calls. It takes the
+options of a reading, such as `--profile opensearch`.
 """
 
 import argparse
@@ -17,8 +18,11 @@ __all__ = ["StoreLog", "checked", "witness_by_log"]
 
 
 def main(arguments: Optional[Sequence[str]] = None) -> int:
-    """Checks by the words given, and returns the exit status: 0 if the witness is valid, 1 if it isn't, 2 if a text is refused."""
-    parser = argparse.ArgumentParser(description="Checks a witness without casbench, by a checker that shares nothing with it.")
+    """Checks by the words given, and returns the exit status: 0 if the witness is valid, 1 if it isn't, 2 if
+    a text is refused."""
+    parser = argparse.ArgumentParser(
+        description="Checks a witness without casbench, by a checker that shares nothing with it."
+    )
     check = parser.add_subparsers(required=True).add_parser("check", help="says whether a witness is valid")
     check.add_argument("history", help="the history text")
     check.add_argument("witness", help="the witness text")

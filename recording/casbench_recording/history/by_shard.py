@@ -1,7 +1,7 @@
 """A history for each shard, for recordings that one history can't hold.
 
-A history is linearizable if and only if the part of each shard is. So each shard has a file, under a lock of its own, that is checked by
-itself. `continuing` cuts a recording by its calls.
+A history is linearizable if and only if the part of each shard is. So each shard has a file, under a lock of
+its own, that is checked by itself. `continuing` cuts a recording by its calls.
 """
 
 import contextlib
@@ -18,7 +18,9 @@ from .writing import Histories, History, HistoryError
 class Parts(Histories):
     """The histories of a folder, which is made: `shard-3.ndjson` of a shard."""
 
-    def __init__(self, folder: str, most_events: int = MOST_EVENTS, clock: Callable[[], float] = time.time) -> None:
+    def __init__(
+        self, folder: str, most_events: int = MOST_EVENTS, clock: Callable[[], float] = time.time
+    ) -> None:
         self.folder = folder
         self._most_events = most_events
         self._clock = clock

@@ -1,12 +1,14 @@
-"""What the next part of a recording states of a document's past, so that whatever is refuted of the part is true of the whole.
+"""What the next part of a recording states of a document's past, so that whatever is refuted of the part is
+true of the whole.
 
-A recording without end is cut into parts, each a history in its own right. A document moves from one part to the next at a moment of
-its own. Its next part begins with two lines that state the last version known of it, followed by its lost writes that may still take
-effect, lost again. If an order explains the whole recording, one explains each part; docs/RECORDING.md says why.
+A recording without end is cut into parts, each a history in its own right. A document moves from one part to
+the next at a moment of its own. Its next part begins with two lines that state the last version known of it,
+followed by its lost writes that may still take effect, lost again. If an order explains the whole recording,
+one explains each part; docs/RECORDING.md says why.
 
-A reading may take replies to say less. If any copy may answer a get, what it shows isn't known to last. If writes are repeated, a lost one
-may take effect again after it was seen. What was answered is over: the store performs a write again before it answers, and so it does what
-a conflict hides.
+A reading may take replies to say less. If any copy may answer a get, what it shows isn't known to last. If
+writes are repeated, a lost one may take effect again after it was seen. What was answered is over: the store
+performs a write again before it answers, and so it does what a conflict hides.
 """
 
 import json
@@ -21,7 +23,8 @@ from .writing import Call
 
 
 class Version(NamedTuple):
-    """A version of a document: its pair and its value, which is None if the document was deleted with this pair."""
+    """A version of a document: its pair and its value, which is None if the document was deleted with this
+    pair."""
 
     pair: Pair
     value: Optional[int]
@@ -48,7 +51,10 @@ class InterpretedReply(NamedTuple):
 read_json = json.JSONDecoder().decode
 """The value of a JSON text."""
 
-MISSING, REFUSED, UNCHANGED, UNKNOWN = (InterpretedReply(it) for it in (ReplyKind.MISSING, ReplyKind.REFUSED, ReplyKind.UNCHANGED, ReplyKind.UNKNOWN))
+MISSING, REFUSED, UNCHANGED, UNKNOWN = (
+    InterpretedReply(it)
+    for it in (ReplyKind.MISSING, ReplyKind.REFUSED, ReplyKind.UNCHANGED, ReplyKind.UNKNOWN)
+)
 
 RESULTS_OF_A_WRITE = {
     ("index", 201, "created"),
@@ -61,9 +67,11 @@ RESULTS_OF_A_WRITE = {
 
 
 def interpret_reply(operation: Operation, status: int, text: Optional[str]) -> InterpretedReply:
-    """What a reply with this status says, and the JSON text of its body: the row of the reply table of docs/FORMATS.md."""
+    """What a reply with this status says, and the JSON text of its body: the row of the reply table of
+    docs/FORMATS.md."""
     try:
-        # (but for a zero with a sign the JSON reader finds the same whole numbers, and is quicker without a look at each)
+        # (but for a zero with a sign the JSON reader finds the same whole numbers, and is quicker without a
+        # look at each)
         body = None if text is None else value_of(text) if "-0" in text else read_json(text)
     except (ValueError, RecursionError):
         return UNKNOWN
@@ -79,7 +87,9 @@ def interpret_reply(operation: Operation, status: int, text: Optional[str]) -> I
     return UNCHANGED if operation.op == "index" and changed_nothing(status, body) else UNKNOWN
 
 
-def interpret_ending(operation: Operation, ending: Union[Tuple[int, Optional[str]], Loss]) -> Optional[InterpretedReply]:
+def interpret_ending(
+    operation: Operation, ending: Union[Tuple[int, Optional[str]], Loss]
+) -> Optional[InterpretedReply]:
     """What an ending says of a call; None of one that was not performed."""
     if not isinstance(ending, Loss):
         return interpret_reply(operation, *ending)
@@ -91,13 +101,18 @@ def interpret_get(status: int, body: Dict[str, object]) -> InterpretedReply:
     pair, source = pair_if(body.get("_primary_term"), body.get("_seq_no")), body.get("_source")
     if status == 200 and body.get("found") is True and pair is not None and isinstance(source, dict):
         value = source.get("k")
-        return InterpretedReply(ReplyKind.FOUND, Version(pair, value)) if is_whole(value, 0, 2**64 - 1) else UNKNOWN
+        return (
+            InterpretedReply(ReplyKind.FOUND, Version(pair, value))
+            if is_whole(value, 0, 2**64 - 1)
+            else UNKNOWN
+        )
     return MISSING if status == 404 and body.get("found") is False else UNKNOWN
 
 
 @dataclass(frozen=True)
 class Beginning:
-    """What a document's next part begins with: the last version known, and the writes that may still take effect, lost again."""
+    """What a document's next part begins with: the last version known, and the writes that may still take
+    effect, lost again."""
 
     version: Optional[Version]
     lost: List[Operation]
@@ -109,7 +124,8 @@ class Beginning:
 
 
 class DocumentPast:
-    """What of a document's past its later calls depend on, in a reading. It holds as much as may still count, and not every call."""
+    """What of a document's past its later calls depend on, in a reading. It holds as much as may still count,
+    and not every call."""
 
     __slots__ = ("version", "_reading", "_open", "_lost_blind", "_lost_conditional", "_refused", "_refusals")
 
@@ -123,8 +139,8 @@ class DocumentPast:
         # writes of unknown outcome that may still take effect: those without a condition, and those with one
         self._lost_blind: Sequence[Operation] = ()
         self._lost_conditional: Sequence[Operation] = ()
-        # the last of the writes that were answered as ones that changed nothing, and may have been performed all the same, and how many there
-        # were in all
+        # the last of the writes that were answered as ones that changed nothing, and may have been performed
+        # all the same, and how many there were in all
         self._refused: Sequence[Operation] = ()
         self._refusals = 0
 
@@ -160,7 +176,12 @@ class DocumentPast:
         if told.version is not None:
             if told.outcome is ReplyKind.WRITTEN or self._reading.gets is Gets.LAST:
                 self._shown(told.version, told.outcome, self._refusals - refusals)
-        elif told is REFUSED and self._may_be_performed(operation) or told is UNCHANGED and self._may_be_performed_before(operation):
+        elif (
+            told is REFUSED
+            and self._may_be_performed(operation)
+            or told is UNCHANGED
+            and self._may_be_performed_before(operation)
+        ):
             self._refused = appended(self._refused, operation)
             self._refusals += 1
         elif told is UNKNOWN and operation.op != "get" and operation.condition is None:
@@ -180,8 +201,11 @@ class DocumentPast:
         return any(it.op == "delete" and self._may_still_follow(it) for it in self._undecided())
 
     def _may_be_performed_before(self, unchanged: Operation) -> bool:
-        """Whether an update whose last attempt changed nothing may have been performed by an earlier one, behind the version."""
-        is_tried_again = self._reading.writes is Writes.REPEATED or self._reading.conflicts is not Conflicts.PLAIN
+        """Whether an update whose last attempt changed nothing may have been performed by an earlier one,
+        behind the version."""
+        is_tried_again = (
+            self._reading.writes is Writes.REPEATED or self._reading.conflicts is not Conflicts.PLAIN
+        )
         return is_tried_again and self._may_still_follow(unchanged)
 
     def _may_still_follow(self, operation: Operation) -> bool:
@@ -189,13 +213,21 @@ class DocumentPast:
         return self.version is None or may_follow(operation, self.version)
 
     def _undecided(self) -> List[Operation]:
-        """The writes of which it isn't known whether they were performed or will be, and the gets that are open."""
-        return [*self._lost_blind, *self._lost_conditional, *(it.operation for it in self._open or ()), *self._refused]
+        """The writes of which it isn't known whether they were performed or will be, and the gets that are
+        open."""
+        return [
+            *self._lost_blind,
+            *self._lost_conditional,
+            *(it.operation for it in self._open or ()),
+            *self._refused,
+        ]
 
     def _shown(self, version: Version, outcome: ReplyKind, since: int) -> None:
-        """Takes a version that lasts and that the reply to a call shows, with how many refusals were taken since the call was made.
+        """Takes a version that lasts and that the reply to a call shows, with how many refusals were taken
+        since the call was made.
 
-        A write that was answered before as one that changed nothing takes no pair past that version, so it is dropped.
+        A write that was answered before as one that changed nothing takes no pair past that version, so it is
+        dropped.
         """
         if len(self._refused) > since:
             self._refused = self._refused[len(self._refused) - since :] or ()
@@ -207,20 +239,25 @@ class DocumentPast:
         self._lost_conditional = [it for it in self._lost_conditional if may_follow(it, version)] or ()
 
     def _drop_writer_of(self, version: Version) -> None:
-        """Drops the lost write that took a version which a get found, if only one can have: it took effect, and won't again."""
+        """Drops the lost write that took a version which a get found, if only one can have: it took effect,
+        and won't again."""
         undecided = [it for it in self._undecided() if it.op in WRITES_A_VALUE and it.value == version.value]
         writers = [it for it in undecided if may_precede(it, version)]
-        if len(writers) == 1 and not self._reading.is_performed_twice(writers[0].op, writers[0].condition is not None):
+        if len(writers) == 1 and not self._reading.is_performed_twice(
+            writers[0].op, writers[0].condition is not None
+        ):
             self._lost_blind = [it for it in self._lost_blind if it is not writers[0]] or ()
             self._lost_conditional = [it for it in self._lost_conditional if it is not writers[0]] or ()
 
     def beginning(self) -> Beginning:
         """What the document's next part begins with.
 
-        Calls that are open are among the lost ones: a document may also move before it is at rest. Then replies to those calls belong
-        to neither part.
+        Calls that are open are among the lost ones: a document may also move before it is at rest. Then
+        replies to those calls belong to neither part.
         """
-        return Beginning(self.version, [it for it in self._undecided() if it.op != "get" and self._may_still_follow(it)])
+        return Beginning(
+            self.version, [it for it in self._undecided() if it.op != "get" and self._may_still_follow(it)]
+        )
 
 
 def appended(operations: Sequence[Operation], operation: Operation) -> List[Operation]:
@@ -232,10 +269,12 @@ def appended(operations: Sequence[Operation], operation: Operation) -> List[Oper
 
 
 def may_follow(operation: Operation, version: Version) -> bool:
-    """Whether a write may take effect after a version was written. One whose condition is a lesser pair can't."""
+    """Whether a write may take effect after a version was written. One whose condition is a lesser pair
+    can't."""
     return operation.condition is None or operation.condition >= version.pair
 
 
 def may_precede(operation: Operation, version: Version) -> bool:
-    """Whether a write may have taken a version's pair. One whose condition is that pair or a greater one can't."""
+    """Whether a write may have taken a version's pair. One whose condition is that pair or a greater one
+    can't."""
     return operation.condition is None or operation.condition < version.pair

@@ -1,9 +1,10 @@
 """A recording without end: a directory of parts, each a history in its own right, on the same index.
 
-A part takes documents until it has so many calls. From then on each document moves to the next part with its first call while no other
-call of it is open, and its next part begins with what `carried_over` states of it. If a part is full a document moves while calls of it are
-open: they are lost in that part, and lost again in the next one. A part is finished when it takes no more documents and none of its
-calls is open; its name has the suffix `.growing` until then.
+A part takes documents until it has so many calls. From then on each document moves to the next part with its
+first call while no other call of it is open, and its next part begins with what `carried_over` states of it.
+If a part is full a document moves while calls of it are open: they are lost in that part, and lost again in
+the next one. A part is finished when it takes no more documents and none of its calls is open; its name has
+the suffix `.growing` until then.
 """
 
 import argparse
@@ -31,10 +32,13 @@ MOST_LOST = 1000
 
 
 class TooManyLost(HistoryError):
-    """A document has more lost writes than its next part can begin with, so it is recorded no longer. No line of a call was written."""
+    """A document has more lost writes than its next part can begin with, so it is recorded no longer. No line
+    of a call was written."""
 
     def __init__(self, id: str) -> None:
-        super().__init__(f"the document {id} has more lost writes that may still take effect than are carried over")
+        super().__init__(
+            f"the document {id} has more lost writes that may still take effect than are carried over"
+        )
         self.id = id
 
 
@@ -46,7 +50,8 @@ class GrowingPart:
         self.history = History(path + GROWING, most_events, clock)
         # whether it takes no more documents, and has each that is at rest leave
         self.is_closed = False
-        # how many more calls it takes documents with, beside those with which they begin; and calls whose lines are written next
+        # how many more calls it takes documents with, beside those with which they begin; and calls whose
+        # lines are written next
         self._left = most_calls
         self._waiting: "List[WholeCall]" = []
 
@@ -94,7 +99,8 @@ class GrowingPart:
             self.history.lose(self.history.call_all(beginning.lost))
 
     def finish(self) -> None:
-        """Ends the history, in which calls that are open are lost, and gives it its name. Without a call there is no file."""
+        """Ends the history, in which calls that are open are lost, and gives it its name. Without a call
+        there is no file."""
         self._waiting.clear()
         try:
             self.history.end()
@@ -119,7 +125,12 @@ class ContinuedDocument:
     def place(self) -> Optional[GrowingPart]:
         """The part that its next call goes to, or None if it moves to another one first."""
         part = self.part
-        if part is None or part.history.has_ended or part.is_closed and (self.past.is_at_rest or part.room == 0):
+        if (
+            part is None
+            or part.history.has_ended
+            or part.is_closed
+            and (self.past.is_at_rest or part.room == 0)
+        ):
             return None
         return part
 
@@ -129,7 +140,14 @@ class WholeCall(Call):
 
     __slots__ = ("document", "part", "own")
 
-    def __init__(self, history: "Continuing", number: int, operation: Operation, document: ContinuedDocument, part: GrowingPart) -> None:
+    def __init__(
+        self,
+        history: "Continuing",
+        number: int,
+        operation: Operation,
+        document: ContinuedDocument,
+        part: GrowingPart,
+    ) -> None:
         super().__init__(history, number, operation)
         self.document = document
         self.part = part
@@ -143,10 +161,11 @@ class WholeCall(Call):
 
 
 class Continuing(CallWriter):
-    """The parts of a directory, which is made, to be judged in a reading. Any thread may use it, as a `History`.
+    """The parts of a directory, which is made, to be judged in a reading. Any thread may use it, as a
+    `History`.
 
-    The numbers of its calls are those of the whole recording; each part numbers its calls anew. Where a line can't be written
-    HistoryError is raised, as by a `History`.
+    The numbers of its calls are those of the whole recording; each part numbers its calls anew. Where a line
+    can't be written HistoryError is raised, as by a `History`.
     """
 
     def __init__(
@@ -158,7 +177,8 @@ class Continuing(CallWriter):
         clock: Callable[[], float] = time.time,
     ) -> None:
         super().__init__(folder)
-        # is told of each document that moves, with what its next part begins with, before its call there is returned
+        # is told of each document that moves, with what its next part begins with, before its call there is
+        # returned
         self.on_move: Callable[[str, Beginning], object] = lambda id, beginning: None
         self._reading = reading
         self._most_events = min(most_events, reading.most_events)
@@ -209,7 +229,8 @@ class Continuing(CallWriter):
             return call
 
     def call_all(self, operations: Sequence[Operation]) -> List[Call]:
-        """Writes the lines of several calls, such as the items of a bulk request; none where CallError or TooManyLost is raised."""
+        """Writes the lines of several calls, such as the items of a bulk request; none where CallError or
+        TooManyLost is raised."""
         for it in operations:
             members_of_call(it)
         with self._lock:
@@ -220,7 +241,8 @@ class Continuing(CallWriter):
             return [*calls]
 
     def _document(self, operation: Operation) -> Tuple[ContinuedDocument, Optional[GrowingPart]]:
-        """The document of an operation, after a look whether it can be called, and the part that the call goes to, unless the document moves."""
+        """The document of an operation, after a look whether it can be called, and the part that the call
+        goes to, unless the document moves."""
         if self.has_ended:
             raise Ended
         document = self._documents.get(operation.id)
@@ -228,7 +250,9 @@ class Continuing(CallWriter):
             members_of_call(operation)
             document = self._documents[operation.id] = ContinuedDocument(operation.shard, self._reading)
         if document.shard != operation.shard:
-            raise CallError(f"the document {operation.id!r} is on shard {document.shard}, and not on {operation.shard}")
+            raise CallError(
+                f"the document {operation.id!r} is on shard {document.shard}, and not on {operation.shard}"
+            )
         part = document.place()
         if document.is_left or part is None and not self._can_move(document):
             raise TooManyLost(operation.id)
@@ -241,7 +265,8 @@ class Continuing(CallWriter):
                 self._documents.pop(it, None)
 
     def forgets(self, id: str) -> bool:
-        """Forgets a document if nothing is known of it that another part would state; returns whether it did."""
+        """Forgets a document if nothing is known of it that another part would state; returns whether it
+        did."""
         with self._lock:
             document = self._documents.get(id)
             is_blank = document is None or document.past.is_blank
@@ -250,7 +275,8 @@ class Continuing(CallWriter):
             return is_blank
 
     def _can_move(self, document: ContinuedDocument) -> bool:
-        """Whether another part can begin with the document. If it can't the document is recorded no longer."""
+        """Whether another part can begin with the document. If it can't the document is recorded no
+        longer."""
         beginning = document.past.beginning()
         document.is_left = len(beginning.lost) > MOST_LOST or beginning.calls >= self._most_events // 2
         if document.is_left:
@@ -284,7 +310,8 @@ class Continuing(CallWriter):
         return part
 
     def _lose_in_part(self, document: ContinuedDocument) -> None:
-        """Writes the document's open calls as lost in the part that it leaves: they may have read what only the next part has."""
+        """Writes the document's open calls as lost in the part that it leaves: they may have read what only
+        the next part has."""
         part = document.part
         calls = [self._open[it.number] for it in document.past.open_calls]
         if part is None or part.history.has_ended or not calls:
@@ -375,7 +402,8 @@ class Continuing(CallWriter):
         part.finish()
 
     def end(self) -> None:
-        """Finishes each part; later calls and endings raise Ended. Without a call no file is left, and so no directory."""
+        """Finishes each part; later calls and endings raise Ended. Without a call no file is left, and so no
+        directory."""
         with self._lock:
             if self.has_ended:
                 return
@@ -408,5 +436,11 @@ def part_of(text: str) -> int:
 
 def add_part_options(add: Callable[..., object]) -> None:
     """Adds the options of a recorder that goes on without end."""
-    add("--parts", dest="part", action="store_const", const=PART, help=f"OUT is a directory of parts of {PART} calls: the recording has no end")
+    add(
+        "--parts",
+        dest="part",
+        action="store_const",
+        const=PART,
+        help=f"OUT is a directory of parts of {PART} calls: the recording has no end",
+    )
     add("--part", type=part_of, metavar="N", help="the same, with parts of N calls")

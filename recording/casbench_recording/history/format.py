@@ -1,4 +1,5 @@
-"""The lines of a history text: limits, calls and replies as their members, and what casbench reads of a JSON text."""
+"""The lines of a history text: limits, calls and replies as their members, and what casbench reads of a JSON
+text."""
 
 import functools
 import json
@@ -13,7 +14,8 @@ LONGEST_LINE = 65_536
 """The most bytes of a line, its line feed not counted."""
 
 LONGEST_BODY = LONGEST_LINE - 100
-"""The most bytes of the text of a body in it: the number, the time and what stands around them take the others."""
+"""The most bytes of the text of a body in it: the number, the time and what stands around them take the
+others."""
 
 LONGEST_ID = 512
 """The most bytes of a document's id."""
@@ -25,7 +27,8 @@ LONGEST_NOTE = 1000
 """The most letters of a note."""
 
 DEEPEST_BODY = 100
-"""How deep arrays and objects of a body may be nested. casbench reads 127 levels, and the line around it is one."""
+"""How deep arrays and objects of a body may be nested. casbench reads 127 levels, and the line around it is
+one."""
 
 OPERATIONS = ("get", "index", "delete", "create")
 
@@ -51,7 +54,8 @@ JsonObject = Dict[str, Any]
 """The members of a JSON object."""
 
 ReplyBody = Union[bytes, str, Dict[str, Any], List[Any], None]
-"""A reply's body: its text as it was received, in bytes or as a string, or the value that it was read as, or nothing."""
+"""A reply's body: its text as it was received, in bytes or as a string, or the value that it was read as, or
+nothing."""
 
 Reply = Tuple[int, Optional[str]]
 """The status of a reply, and the JSON text of its body, if it has one that is read."""
@@ -64,8 +68,10 @@ class Loss(Enum):
     OVER = "it may have been performed, and won't be any more: it was answered"
     VOID = "it was not performed"
 
+
 Rest = Union[str, Loss]
-"""What stands behind the number and the time of an ending: the rest of a reply's line, or what a lost call's line says."""
+"""What stands behind the number and the time of an ending: the rest of a reply's line, or what a lost call's
+line says."""
 
 
 class CallError(ValueError):
@@ -80,8 +86,8 @@ class Pair(NamedTuple):
 
 
 class Operation(NamedTuple):
-    """What a call asks: the operation, the document, the value of an index or a create, the condition of an index or a delete; and
-    who asks, and through which node, if that is known."""
+    """What a call asks: the operation, the document, the value of an index or a create, the condition of an
+    index or a delete; and who asks, and through which node, if that is known."""
 
     op: str
     id: str
@@ -101,7 +107,9 @@ def checked_pair(pair: Pair) -> Pair:
     """The pair, which is refused where it can't be one."""
     checked = pair_if(*pair)
     if checked is None:
-        raise CallError("a term is 1 to 2^63-1 and a sequence number 0 to 2^63-1, and not {!r} and {!r}".format(*pair))
+        raise CallError(
+            "a term is 1 to 2^63-1 and a sequence number 0 to 2^63-1, and not {!r} and {!r}".format(*pair)
+        )
     return checked
 
 
@@ -120,7 +128,10 @@ def text_of_write(id: str, result: str, pair: Pair) -> str:
 
 def text_of_find(id: str, pair: Pair, k: int) -> str:
     """The text of a reply's body that tells what a get found."""
-    return f'{{"_id":{text_of_id(id)},"_seq_no":{pair.seq},"_primary_term":{pair.term},"found":true,"_source":{{"k":{k}}}}}'
+    return (
+        f'{{"_id":{text_of_id(id)},"_seq_no":{pair.seq},"_primary_term":{pair.term},'
+        f'"found":true,"_source":{{"k":{k}}}}}'
+    )
 
 
 def text_of_missing(id: str) -> str:
@@ -135,7 +146,8 @@ def pair_of(body: Any) -> Optional[Pair]:
 
 @functools.lru_cache(maxsize=8192)
 def member_of_id(id: str) -> str:
-    """The member of a call's line that names its document, remembered. Raises CallError where it can't be an id."""
+    """The member of a call's line that names its document, remembered. Raises CallError where it can't be an
+    id."""
     if not isinstance(id, str) or not 1 <= length_of(id) <= LONGEST_ID:
         raise CallError(f"an id is a text of 1 to {LONGEST_ID} bytes, and not {id!r}")
     return f'"id":{compact(id)}'
@@ -143,7 +155,8 @@ def member_of_id(id: str) -> str:
 
 @functools.lru_cache(maxsize=8192)
 def members_of_who(client: str, node: str) -> str:
-    """The members that name the client and the node, as far as they are known, remembered. Raises CallError at what can't be a name."""
+    """The members that name the client and the node, as far as they are known, remembered. Raises CallError
+    at what can't be a name."""
     return "".join([member_of(key, name) for key, name in (("client", client), ("node", node)) if name])
 
 
@@ -155,7 +168,8 @@ def member_of(key: str, name: str) -> str:
 
 
 def members_of_call(operation: Operation) -> str:
-    """The members of a call's line behind its number, up to the line's end. Raises CallError where it can't be a call."""
+    """The members of a call's line behind its number, up to the line's end. Raises CallError where it can't
+    be a call."""
     op, id, value, condition, shard, client, node = operation
     if op not in OPERATIONS:
         raise CallError(f"an operation is one of {', '.join(OPERATIONS)}, and not {op!r}")
@@ -190,7 +204,8 @@ def line_of_ending(number: int, now: int, rest: Rest) -> str:
 def rest_of(ending: Union[Reply, Loss]) -> Rest:
     """What stands behind the number of an ending: of a reply its status, and its body as it came.
 
-    Where the body is too long for a line, its members that count stand for it; where they are too long, nothing.
+    Where the body is too long for a line, its members that count stand for it; where they are too long,
+    nothing.
     """
     if isinstance(ending, Loss):
         return ending
@@ -239,7 +254,8 @@ def text_of(body: ReplyBody) -> Optional[str]:
 
 
 def whole_number(digits: str) -> Union[int, float]:
-    """A number that is spelled by digits alone. With a minus sign 0 isn't whole for casbench, and stays so."""
+    """A number that is spelled by digits alone. With a minus sign 0 isn't whole for casbench, and stays
+    so."""
     other_number(digits)
     return -0.0 if digits == "-0" else int(digits)
 
@@ -251,8 +267,12 @@ def other_number(digits: str) -> float:
         raise ValueError(f"{digits} is past what a float holds")
     return number
 
-value_of = json.JSONDecoder(parse_int=whole_number, parse_float=other_number, parse_constant=other_number).decode
-"""The value of a JSON text. Raises ValueError where it is none, or has a number that casbench doesn't read."""
+
+value_of = json.JSONDecoder(
+    parse_int=whole_number, parse_float=other_number, parse_constant=other_number
+).decode
+"""The value of a JSON text. Raises ValueError where it is none, or has a number that casbench doesn't
+read."""
 
 
 def length_of(text: str) -> int:
@@ -264,7 +284,8 @@ def length_of(text: str) -> int:
 
 
 def is_readable(text: str) -> bool:
-    """Whether casbench's reader takes the JSON text: it has no half of a surrogate pair and isn't nested too deep."""
+    """Whether casbench's reader takes the JSON text: it has no half of a surrogate pair and isn't nested too
+    deep."""
     if not HALF_OF_A_PAIR.search(text) and text.count("{") + text.count("[") <= DEEPEST_BODY:
         return True
     # (as lists of pairs, so that a key that comes twice keeps both its values)

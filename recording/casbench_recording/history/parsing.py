@@ -1,4 +1,5 @@
-"""A history text as its calls: what each one wrote and showed, and the text of some of them, with their part of a witness."""
+"""A history text as its calls: what each one wrote and showed, and the text of some of them, with their part
+of a witness."""
 
 import json
 from bisect import bisect_left
@@ -14,7 +15,19 @@ VersionKey = Tuple[str, int, int]
 class ParsedCall:
     """A call: its document, where its lines stand, and the version that its reply shows or asks for."""
 
-    __slots__ = ("number", "id", "op", "has_condition", "is_refused", "is_void", "result", "made", "stands_on", "line", "ending")
+    __slots__ = (
+        "number",
+        "id",
+        "op",
+        "has_condition",
+        "is_refused",
+        "is_void",
+        "result",
+        "made",
+        "stands_on",
+        "line",
+        "ending",
+    )
 
     def __init__(self, event: Dict[str, Any], line: int) -> None:
         self.number: int = event["n"]
@@ -50,14 +63,16 @@ class ParsedCall:
 
 
 class Record(NamedTuple):
-    """What a place of a witness is of: the number of a call, or its write that the store may have performed again."""
+    """What a place of a witness is of: the number of a call, or its write that the store may have performed
+    again."""
 
     number: int
     is_again: bool
 
 
 class WitnessPlace(NamedTuple):
-    """A place of a witness: where it stands among those of its document, and the members of its line but for the record."""
+    """A place of a witness: where it stands among those of its document, and the members of its line but for
+    the record."""
 
     rank: int
     pair: Dict[str, int]
@@ -120,7 +135,8 @@ class ParsedHistory:
         return b"".join(map(self.lines.__getitem__, lines))
 
     def witness_of(self, kept: Collection[int]) -> bytes:
-        """The part of the witness that is of these calls: their places in the same order, their records numbered anew."""
+        """The part of the witness that is of these calls: their places in the same order, their records
+        numbered anew."""
         entries: Dict[str, List[Tuple[WitnessPlace, int]]] = {}
         records: Dict[str, int] = {}
         for call in self.in_order(kept):
@@ -132,7 +148,9 @@ class ParsedHistory:
         rows: List[Dict[str, Any]] = []
         for id, places in entries.items():
             rows.append({"doc": id})
-            rows += [{"rec": number, **place.pair} for place, number in sorted(places, key=lambda it: it[0].rank)]
+            rows += [
+                {"rec": number, **place.pair} for place, number in sorted(places, key=lambda it: it[0].rank)
+            ]
         return b"".join(json.dumps(it, separators=(",", ":")).encode() + b"\n" for it in rows)
 
     def in_order(self, numbers: Iterable[int]) -> List[ParsedCall]:

@@ -1,11 +1,12 @@
-"""Readings of a history: what a store promises less than that each reply shows the last change of its document.
+"""Readings of a history: what a store promises less than that each reply shows the last change of its
+document.
 
 The names and the values are those of casbench's options. Without any of them a reading is strict.
 """
 
 import argparse
 from enum import Enum
-from typing import Callable, Dict, List, NamedTuple, Optional, Sequence, Type, Union
+from typing import Any, Callable, Dict, List, NamedTuple, Optional, Sequence, Type, Union
 
 from .format import MOST_EVENTS
 
@@ -18,7 +19,8 @@ class Gets(Enum):
 
 
 class Conflicts(Enum):
-    """How a conflict is read: as a write that was not performed, as one that may have been performed all the same, or as nothing at all."""
+    """How a conflict is read: as a write that was not performed, as one that may have been performed all the
+    same, or as nothing at all."""
 
     PLAIN = "plain"
     MAYBE = "maybe"
@@ -33,7 +35,8 @@ class Writes(Enum):
 
 
 class Failed(Enum):
-    """How a lost call that is marked as void is read: as one that may have been performed, or as one that was not."""
+    """How a lost call that is marked as void is read: as one that may have been performed, or as one that was
+    not."""
 
     LOST = "lost"
     TRUSTED = "trusted"
@@ -49,20 +52,23 @@ class Reading(NamedTuple):
 
     def options(self) -> List[str]:
         """The options that ask casbench for it: of each choice that isn't the strict one."""
-        named = {name: choice for name, choice in self._asdict().items() if choice is not getattr(STRICT, name)}
+        named = {
+            name: choice for name, choice in self._asdict().items() if choice is not getattr(STRICT, name)
+        }
         return [word for name, choice in named.items() for word in (f"--{name}", choice.value)]
 
     @property
     def most_events(self) -> int:
         """How many events a recording has at most, so that one check takes it.
 
-        A check counts a call and its ending, and of a write that may be performed twice a third event. Here each call counts as such a
-        write.
+        A check counts a call and its ending, and of a write that may be performed twice a third event. Here
+        each call counts as such a write.
         """
         return MOST_EVENTS // 3 * 2 if self.writes is Writes.REPEATED else MOST_EVENTS
 
     def is_performed_twice(self, op: str, has_condition: bool) -> bool:
-        """Whether the store may perform this operation a second time. A write under a condition would be refused then."""
+        """Whether the store may perform this operation a second time. A write under a condition would be
+        refused then."""
         return self.writes is Writes.REPEATED and op != "get" and not has_condition
 
 
@@ -71,7 +77,8 @@ OPENSEARCH = Reading(Gets.ANY, Conflicts.UNKNOWN, Writes.REPEATED, Failed.TRUSTE
 
 
 class Profile(Enum):
-    """What a store promises as a whole: linearizable reads and writes, or what OpenSearch's documentation says."""
+    """What a store promises as a whole: linearizable reads and writes, or what OpenSearch's documentation
+    says."""
 
     STRICT = "strict"
     OPENSEARCH = "opensearch"
@@ -112,8 +119,10 @@ class NamedOnce(argparse.Action):
 
 
 def add_reading_options(add: Callable[..., object], **more: str) -> None:
-    """Adds the options of a reading, which are those of a check; and more values of them, each by the name of its option."""
-    for name, kind in {"profile": Profile, **CHOICES}.items():
+    """Adds the options of a reading, which are those of a check; and more values of them, each by the name of
+    its option."""
+    kinds: Dict[str, Type[Enum]] = {"profile": Profile, **CHOICES}
+    for name, kind in kinds.items():
         values = [it.value for it in kind] + ([more[name]] if name in more else [])
         add(f"--{name}", action=NamedOnce, choices=values, help=HELP[name])
 
@@ -124,9 +133,15 @@ def is_named(setting: argparse.Namespace) -> bool:
 
 
 def reading_of(setting: argparse.Namespace) -> Reading:
-    """The reading that the options ask for: that of the profile, but for the choices that are named beside it."""
-    named = {name: getattr(setting, name) for name in CHOICES}
-    return profile_of(setting).reading._replace(**{name: CHOICES[name](value) for name, value in named.items() if value is not None})
+    """The reading that the options ask for: that of the profile, but for the choices that are named beside
+    it."""
+    profile = profile_of(setting).reading
+
+    def chosen(name: str) -> Any:
+        value = getattr(setting, name)
+        return getattr(profile, name) if value is None else CHOICES[name](value)
+
+    return Reading(*map(chosen, CHOICES))
 
 
 def profile_of(setting: argparse.Namespace) -> Profile:
@@ -135,5 +150,6 @@ def profile_of(setting: argparse.Namespace) -> Profile:
 
 
 def is_ruling_out(setting: argparse.Namespace) -> bool:
-    """Whether documents are checked for being ruled out: if that is asked for, and with the profile of OpenSearch."""
+    """Whether documents are checked for being ruled out: if that is asked for, and with the profile of
+    OpenSearch."""
     return setting.rule_out or profile_of(setting) is Profile.OPENSEARCH

@@ -1,7 +1,8 @@
 """Witnesses: made from the log of a store, and checked without casbench.
 
-`witness_by_log` makes the witness of a history from the changes in a store's own log, for a strict check. `checked` runs
-`witness_checker`, which is written apart from the prover, and adds a sentence about the calls if the witness isn't valid.
+`witness_by_log` makes the witness of a history from the changes in a store's own log, for a strict check.
+`checked` runs `witness_checker`, which is written apart from the prover, and adds a sentence about the calls
+if the witness isn't valid.
 """
 
 from typing import Iterator, Mapping, NamedTuple, Optional, Tuple
@@ -16,8 +17,8 @@ from .readings import STRICT, Reading
 class StoreLog(NamedTuple):
     """What a store's own log says of the calls of a history, by their numbers.
 
-    `changes` has the pair of each change, with the call that made it. `seen` has for each other answered call the pair of the last
-    change, of whichever document, that its answer had seen.
+    `changes` has the pair of each change, with the call that made it. `seen` has for each other answered call
+    the pair of the last change, of whichever document, that its answer had seen.
     """
 
     changes: Mapping[int, Pair]
@@ -25,8 +26,8 @@ class StoreLog(NamedTuple):
 
 
 class PlaceInLog(NamedTuple):
-    """A place of a document: the pair at which it stands, whether it stands behind the change with this pair, the number of its record,
-    and whether the pair is given."""
+    """A place of a document: the pair at which it stands, whether it stands behind the change with this pair,
+    the number of its record, and whether the pair is given."""
 
     pair: Pair
     is_behind: bool
@@ -35,8 +36,10 @@ class PlaceInLog(NamedTuple):
 
 
 def witness_by_log(history: bytes, log: StoreLog) -> Iterator[str]:
-    """The lines of the witness that the log is of the history: each change stands in the order of the log, each other answered call behind
-    the last change that it had seen. A call of which neither the log nor `seen` says anything stands in no place."""
+    """The lines of the witness that the log is of the history: each change stands in the order of the log,
+    each other answered call behind the last change that it had seen. A call of which neither the log nor
+    `seen` says anything stands in no place.
+    """
     for id, calls in witness_checker.Texts(history, b"").records.items():
         yield compact({"doc": id}) + "\n"
         for place in sorted(filter(None, (place_of(*it, log) for it in enumerate(calls)))):
@@ -95,11 +98,15 @@ SENTENCES = {
     "illegal": "The reply can't be that of {first}, since the document {id} {version} before the place.",
     "absent": "The document {id} has no place for an answered call, {first}.",
     "pair-twice": "One pair is taken by two calls of a shard, {first} and {second}.",
-    "no-writer": "No write that was made before the reply can have given the document {id} what was found by {first}.",
-    "stale-get": "An older version was found by {first} than was written by {second}, whose reply came before the get was made.",
-    "missed-write": "Nothing was found by {first}, though a reply came before it was made to {second}, and no delete can be behind that.",
+    "no-writer": "No write that was made before the reply can have given the document {id} what was found by "
+    "{first}.",
+    "stale-get": "An older version was found by {first} than was written by {second}, whose reply came "
+    "before the get was made.",
+    "missed-write": "Nothing was found by {first}, though a reply came before it was made to {second}, and "
+    "no delete can be behind that.",
 }
-"""What is wrong, by the cause. `first` and `second` are calls, `version` is what the document is before a place."""
+"""What is wrong, by the cause. `first` and `second` are calls, `version` is what the document is before a
+place."""
 
 
 def sentence_of(fault: witness_checker.Broken) -> str:
@@ -108,7 +115,9 @@ def sentence_of(fault: witness_checker.Broken) -> str:
     cause = dict(it.split("=", 1) for it in where.split())["cause"]
     first, second = ([named(it) for it in calls] + ["", ""])[:2]
     told = SENTENCES["no-record" if cause == "stranger" and not calls else cause]
-    return told.format(id=compact(id), first=first, second=second, version=version_named(*version[0]) if version else "")
+    return told.format(
+        id=compact(id), first=first, second=second, version=version_named(*version[0]) if version else ""
+    )
 
 
 def words_of(reading: Reading) -> witness_checker.ReadingValues:

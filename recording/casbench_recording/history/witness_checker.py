@@ -1,6 +1,4 @@
-"""Checks a witness against a history, by the definitions of docs/MODEL.md and docs/FORMATS.md alone.
-
-It shares nothing with casbench, its tests or the rest of this package, so that it can be read and trusted by itself."""
+"""Checks a witness by MODEL.md and FORMATS.md alone. It shares nothing with casbench or this package."""
 
 import json
 from bisect import bisect_left
@@ -10,21 +8,22 @@ from itertools import accumulate
 from typing import Any, Callable, Dict, Iterable, Iterator, List, NamedTuple, Optional, Set, Tuple
 
 Members = Dict[str, Any]
-PairOfNumbers = Tuple[int, int]  # primary term and sequence number, compared in this order
-PlacedRecord = Tuple[int, Optional[PairOfNumbers]]  # the number of a record, and the pair that is given
-DocumentVersion = Tuple[Optional[PairOfNumbers], Optional[int]]  # of a document the pair of its last change, and its number, None if it isn't there
+Numbers = Tuple[int, int]  # primary term and sequence number, compared in this order
+Placed = Tuple[int, Optional[Numbers]]  # the number of a record, and the pair that is given
+DocVersion = Tuple[Optional[Numbers], Optional[int]]  # the pair of the last change; k, None if deleted
 
-EVENTS, WRITES_K = ("call", "reply", "lost"), {"get": False, "index": True, "create": True, "delete": False}
-ROWS: Dict[Tuple[str, int, str], Tuple[str, Optional[bool]]] = {  # operation, status, what the body says: the reply, whether it was there
-    **{("get", 200, "true"): ("found", True), ("get", 404, "false"): ("missing", False), ("index", 201, '"created"'): ("created", False)},
-    **{("index", 200, '"updated"'): ("updated", True), ("create", 201, '"created"'): ("created", False)},
-    **{("delete", 200, '"deleted"'): ("deleted", True), ("delete", 404, '"not_found"'): ("not_found", False)},
-    **{(op, 409, '"version_conflict_engine_exception"'): ("conflict", None) for op in ("index", "create", "delete")},
+EVENTS, HAS_K = ("call", "reply", "lost"), {"get": False, "index": True, "create": True, "delete": False}
+ROWS: Dict[Tuple[str, int, str], Tuple[str, Optional[bool]]] = {  # op, status, body: reply, was it there
+    **{("get", 200, "true"): ("found", True), ("get", 404, "false"): ("missing", False)},
+    **{(op, 201, '"created"'): ("created", False) for op in ("index", "create")},
+    **{("index", 200, '"updated"'): ("updated", True), ("delete", 200, '"deleted"'): ("deleted", True)},
+    ("delete", 404, '"not_found"'): ("not_found", False),
+    **{(op, 409, '"version_conflict_engine_exception"'): ("conflict", None) for op in HAS_K if op != "get"},
 }
 
 
 class ReadingValues(NamedTuple):
-    """What the store promises: the values of casbench's options. Without one, that each reply shows the last change of its document."""
+    """What the store promises: the values of casbench's options. The defaults are those of a strict check."""
 
     gets: str = "last"
     conflicts: str = "plain"
@@ -40,24 +39,24 @@ class Refused(Exception):
 
 
 class Broken(Exception):
-    """The first fault: where, as casbench writes it; the document; the calls that it is about; and of a place the version before it."""
+    """The first fault: where, as casbench writes it; the document; the calls; the version before a place."""
 
 
 @dataclass
 class CheckedCall:
-    """A call: what it asks, and the event at which it was made; if it was answered, at which event and with what."""
+    """A call: what it asks, and at which event; if it was answered, at which event and with what."""
 
     number: int
     id: str
     shard: int
     op: str
     k: Optional[int]
-    condition: Optional[PairOfNumbers]
+    condition: Optional[Numbers]
     made: int
     answered: Optional[int] = None
     reply: str = "no reply"
     was_there: Optional[bool] = None
-    pair: Optional[PairOfNumbers] = None
+    pair: Optional[Numbers] = None
     found: Optional[int] = None
     is_void: bool = False  # whether its lost line states that nothing was performed
     is_again: bool = False  # whether it is the second time that the store may have performed its write
@@ -74,9 +73,9 @@ def number_in(members: Members, key: str, bits: int, least: int = 0) -> int:
     return int(members[key])
 
 
-def pair_in(members: Members, term: str, seq: str) -> Optional[PairOfNumbers]:
+def pair_in(its: Members, term: str, seq: str) -> Optional[Numbers]:
     """The pair under the two keys, None if neither is there."""
-    return (number_in(members, term, 63, 1), number_in(members, seq, 63)) if term in members or seq in members else None
+    return (number_in(its, term, 63, 1), number_in(its, seq, 63)) if term in its or seq in its else None
 
 
 def truth_in(members: Members, key: str) -> bool:
@@ -94,9 +93,10 @@ def id_in(members: Members, key: str) -> str:
 
 def call_of(line: Members, event: int) -> CheckedCall:
     op = line["op"]
-    k = number_in(line, "k", 64) if WRITES_K[op] else None
+    k = number_in(line, "k", 64) if HAS_K[op] else None
     condition = pair_in(line, "if_primary_term", "if_seq_no") if op in ("index", "delete") else None
-    return CheckedCall(number_in(line, "n", 64), id_in(line, "id"), number_in({"shard": 0, **line}, "shard", 10), op, k, condition, event)
+    shard = number_in({"shard": 0, **line}, "shard", 10)
+    return CheckedCall(number_in(line, "n", 64), id_in(line, "id"), shard, op, k, condition, event)
 
 
 def hear(call: CheckedCall, event: int, status: int, body: Any) -> None:
@@ -106,13 +106,14 @@ def hear(call: CheckedCall, event: int, status: int, body: Any) -> None:
     with suppress(KeyError, TypeError, ValueError):
         says = body["error"]["type"] if status == 409 else body["found" if call.op == "get" else "result"]
         reply, was_there = ROWS[call.op, status, json.dumps(says)]
-        pair = (number_in(body, "_primary_term", 63, 1), number_in(body, "_seq_no", 63)) if reply not in ("missing", "conflict") else None
+        has_pair = reply not in ("missing", "conflict")
+        pair = (number_in(body, "_primary_term", 63, 1), number_in(body, "_seq_no", 63)) if has_pair else None
         call.found = number_in(body["_source"], "k", 64) if reply == "found" else None
         call.answered, call.reply, call.was_there, call.pair = event, reply, was_there, pair
 
 
 def read(text: bytes, file: str, take: Callable[[Any], None]) -> None:
-    """Hands the value of each line that isn't blank to `take`, which raises an error for one that isn't of the format."""
+    """Hands the value of each line that isn't blank to `take`, which raises an error at a forbidden one."""
     for number, line in enumerate(text.split(b"\n"), 1):
         try:
             if line.strip(b" \t\r"):
@@ -122,14 +123,14 @@ def read(text: bytes, file: str, take: Callable[[Any], None]) -> None:
 
 
 class Texts:
-    """What was read: the calls by number, the records of each document in the order of their lines, the entries of the witness."""
+    """What was read: the calls by number, each document's records in order, the entries of the witness."""
 
     def __init__(self, history: bytes, witness: bytes, reading: ReadingValues = STRICT) -> None:
         self.reading = reading
         self.calls: Dict[int, CheckedCall] = {}
         self.ended: Set[int] = set()
         self.records: Dict[str, List[CheckedCall]] = {}
-        self.entries: List[Tuple[str, List[PlacedRecord]]] = []
+        self.entries: List[Tuple[str, List[Placed]]] = []
         read(history, "history", self.take_event)
         read(witness, "witness", self.take_place)
 
@@ -138,7 +139,8 @@ class Texts:
         event, is_call = 2 * (len(self.calls) + len(self.ended)), line["e"] == "call"
         call = call_of(line, event) if is_call else self.calls[number_in(line, "n", 64)]
         first = self.records.get(call.id, [call])[0]
-        if call.number in (self.calls if is_call else self.ended) or line["e"] not in EVENTS or call.shard != first.shard:
+        is_twice = call.number in (self.calls if is_call else self.ended)
+        if is_twice or line["e"] not in EVENTS or call.shard != first.shard:
             raise ValueError(line)
         if line["e"] == "reply":
             hear(call, event, number_in(line, "status", 16), line.get("body"))
@@ -158,8 +160,8 @@ class Texts:
 
 
 def as_read(call: CheckedCall, reading: ReadingValues) -> Iterator[CheckedCall]:
-    """What is judged in the place of a call. A void one does nothing, as a get; a reply that shows nothing is none; a write without a
-    condition may be performed again, before it is answered or later."""
+    """What is judged in the place of a call. A void one does nothing, as a get; a reply that shows nothing is
+    none; a write without a condition may be performed again, before it is answered or later."""
     if call.is_void:
         yield replace(call, op="get", k=None, condition=None)
         return
@@ -170,21 +172,25 @@ def as_read(call: CheckedCall, reading: ReadingValues) -> Iterator[CheckedCall]:
         yield replace(call.unanswered("no reply"), made=call.made + 1, is_again=True)
 
 
-def version_after(call: CheckedCall, given: Optional[PairOfNumbers], before: DocumentVersion) -> Optional[DocumentVersion]:
+def version_after(call: CheckedCall, given: Optional[Numbers], before: DocVersion) -> Optional[DocVersion]:
     """The document after the call, None if the call can't be answered so in this version of it."""
     (last, k), pair, is_there = before, given or call.pair, before[1] is not None
+    now = last if is_there else None
     if call.op == "get":
-        return before if (call.was_there, call.pair, call.found) == (is_there, last if is_there else None, k) else None
-    is_met = not is_there if call.op == "create" else call.condition is None or is_there and call.condition == last
-    if is_met != (pair is not None) or call.was_there not in (None, is_there) or pair and last and pair <= last:
+        return before if (call.was_there, call.pair, call.found) == (is_there, now, k) else None
+    is_met = not is_there if call.op == "create" else call.condition in (None, now)
+    if is_met != bool(pair) or call.was_there not in (None, is_there) or pair and last and pair <= last:
         return None
     return (pair, call.k) if pair else before
 
 
-def taken_in(entry: int, places: List[PlacedRecord], records: List[CheckedCall], is_maybe: bool) -> Iterator[Tuple[PairOfNumbers, CheckedCall]]:
+Taken = Tuple[Numbers, CheckedCall]
+
+
+def taken_in(entry: int, places: List[Placed], records: List[CheckedCall], is_maybe: bool) -> Iterator[Taken]:
     """The pairs that the calls of an entry take, each with its call. Raises Broken at the first fault."""
     placed: Set[int] = set()
-    latest, version = records[0], (None, None)  # type: CheckedCall, DocumentVersion
+    latest, version = records[0], (None, None)  # type: CheckedCall, DocVersion
     for at, (record, given) in enumerate(places):
         call = records[min(record, len(records) - 1)]
         is_answered, latest = call.answered is not None, max(latest, call, key=lambda it: it.made)
@@ -199,7 +205,8 @@ def taken_in(entry: int, places: List[PlacedRecord], records: List[CheckedCall],
         }
         if after is None or any(faults.values()):
             cause = next(it for it, is_so in faults.items() if is_so)
-            raise Broken(f"entry={entry} cause={cause} place={at}", call.id, [] if record >= len(records) else [call, latest], version)
+            calls = [] if record >= len(records) else [call, latest]
+            raise Broken(f"entry={entry} cause={cause} place={at}", call.id, calls, version)
         placed.add(record)
         if call.op != "get" and pair:
             yield pair, call
@@ -212,7 +219,7 @@ def taken_in(entry: int, places: List[PlacedRecord], records: List[CheckedCall],
 def check_order(texts: Texts, records: Dict[str, List[CheckedCall]]) -> None:
     """Raises Broken at the first fault of the entries, as an order of these records."""
     seen: Set[str] = set()
-    takers: Dict[Tuple[int, PairOfNumbers], List[CheckedCall]] = {}
+    takers: Dict[Tuple[int, Numbers], List[CheckedCall]] = {}
     for entry, (id, places) in enumerate(texts.entries):
         if id not in records or id in seen:
             raise Broken(f"entry={entry} cause={'doc-twice' if id in seen else 'doc-stranger'}", id, [])
@@ -222,18 +229,18 @@ def check_order(texts: Texts, records: Dict[str, List[CheckedCall]]) -> None:
     for number, id in enumerate(records):
         if id not in seen:
             raise Broken(f"doc={number} cause=doc-missing", id, records[id][:1])
-    for (shard, (term, seq)), calls in sorted(takers.items(), key=lambda it: it[0]):
-        if len(calls) > 1:
-            raise Broken(f"term={term} seq={seq} cause=pair-twice{f' shard={shard}' if shard else ''}", calls[0].id, calls)
+    for (on, (term, seq)), by in sorted(takers.items(), key=lambda it: it[0]):
+        if len(by) > 1:
+            raise Broken(f"{term=} {seq=} cause=pair-twice{f' shard={on}' if on else ''}", by[0].id, by)
 
 
-def shown(call: CheckedCall) -> PairOfNumbers:
+def shown(call: CheckedCall) -> Numbers:
     """The pair that the reply shows, a lesser one than any if it shows none."""
     return call.pair or (0, 0)
 
 
 class Greatest:
-    """Of performed writes the one with the greatest pair before a moment, if each counts from a moment of its own on."""
+    """The performed write with the greatest pair before a moment; each counts from a moment of its own on."""
 
     def __init__(self, writes: Iterable[CheckedCall], since: Callable[[CheckedCall], int]) -> None:
         counted = sorted((it for it in writes if it.pair), key=since)
@@ -246,8 +253,7 @@ class Greatest:
 
 
 class DocumentWrites:
-    """The writes of a document, by which its gets are judged one by one if any copy may answer them: it has what was answered before the get
-    was called, and maybe more."""
+    """The writes of a document, by which each of its gets is judged by itself if any copy may answer it."""
 
     def __init__(self, calls: Iterable[CheckedCall], reading: ReadingValues) -> None:
         self.reading = reading
@@ -259,14 +265,15 @@ class DocumentWrites:
         self.made = Greatest((it for it in writes if it.op != "delete"), lambda it: it.answered or 0)
         deletes = [it for it in writes if it.op == "delete"]
         self.deleted = Greatest(deletes, lambda it: it.made)
-        self.any_pair = [it.made for it in deletes if self.is_open(it) or reading.writes == "repeated" and it.condition is None]
+        again = reading.writes == "repeated"
+        self.any_pair = [it.made for it in deletes if self.is_open(it) or again and it.condition is None]
 
     def is_open(self, write: CheckedCall) -> bool:
         """Whether what was heard of the write leaves open whether it was performed, and with which pair."""
         return write.answered is None or write.reply == "conflict" and self.reading.conflicts != "plain"
 
     def may_give(self, write: CheckedCall, get: CheckedCall) -> bool:
-        """Whether the write, which has the number that the get found, may have given the document the pair too, before it was answered."""
+        """Whether the write, whose number the get found, may have given the document its pair by then."""
         is_its_pair = write.pair == get.pair or self.is_open(write) or self.reading.writes == "repeated"
         return write.op != "delete" and write.made < (get.answered or 0) and is_its_pair
 
@@ -288,7 +295,7 @@ class DocumentWrites:
 
 
 def check_gets(texts: Texts, gets: List[CheckedCall]) -> None:
-    """Raises Broken at the first of these gets, in the order of their replies, that no copy can have answered so."""
+    """Raises Broken at the first of these gets, in the order of replies, that no copy can have answered."""
     writes = {id: DocumentWrites(calls, texts.reading) for id, calls in texts.records.items()}
     for get in sorted(gets, key=lambda it: it.answered or 0):
         fault = writes[get.id].fault_of(get)
@@ -298,8 +305,7 @@ def check_gets(texts: Texts, gets: List[CheckedCall]) -> None:
 
 
 class WitnessCounts(NamedTuple):
-    """How many documents and calls there are, how many of these stand in no place, and how many gets, not among those, are judged one by
-    one: None if no get is."""
+    """How many documents, calls, calls in no place, and gets judged by themselves (None if none is)."""
 
     docs: int
     calls: int
@@ -309,10 +315,11 @@ class WitnessCounts(NamedTuple):
 
 def check(texts: Texts) -> WitnessCounts:
     """Checks the witness, and the gets that are judged one by one; raises Broken at the first fault."""
-    records = {id: [it for call in calls for it in as_read(call, texts.reading)] for id, calls in texts.records.items()}
+    reading, calls, is_any = texts.reading, texts.calls, texts.reading.gets == "any"
+    records = {id: [it for call in its for it in as_read(call, reading)] for id, its in texts.records.items()}
     check_order(texts, records)
-    gets = [it for it in texts.calls.values() if texts.reading.gets == "any" and it.op == "get" and it.answered is not None]
+    gets = [it for it in calls.values() if is_any and it.op == "get" and it.answered is not None]
     check_gets(texts, gets)
     placed = sum(not records[id][record].is_again for id, places in texts.entries for record, _ in places)
-    left_out = len(texts.calls) - placed - len(gets)
-    return WitnessCounts(len(texts.records), len(texts.calls), left_out, len(gets) if texts.reading.gets == "any" else None)
+    left_out = len(calls) - placed - len(gets)
+    return WitnessCounts(len(texts.records), len(calls), left_out, len(gets) if is_any else None)

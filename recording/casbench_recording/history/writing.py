@@ -5,8 +5,8 @@
             response = send(...)
             call.reply(response.status, response.body)
 
-The line of a call is in the file before `call` returns, so before its request can leave; the line of its reply when
-`reply` returns. A call that is left without a reply is written as lost. One lock orders all lines.
+The line of a call is in the file before `call` returns, so before its request can leave; the line of its
+reply when `reply` returns. A call that is left without a reply is written as lost. One lock orders all lines.
 """
 
 import contextlib
@@ -45,29 +45,13 @@ if TYPE_CHECKING:
     from .readings import Reading
 
 
-
-
-
-
-
-
-
-
-
 MOST_LOST_AT_ONCE = 65_536
 """How many calls are written as lost together."""
 
 
-
-
-
-
-
-
-
 Ending = Tuple["Call", Union[Reply, Loss, None]]
-"""A call that ends, with its reply, or what is known of it without one; None says as much as an unknown loss."""
-
+"""A call that ends, with its reply, or what is known of it without one; None says as much as an unknown
+loss."""
 
 
 class HistoryError(Exception):
@@ -82,14 +66,9 @@ class NoOutcome(Exception):
     """No whole answer came, or none that says what was done: the outcome of the call is unknown."""
 
 
-
-
-
-
-
-
 class Call:
-    """A call that was made. It is ended once: by a reply, or as lost, which the end of its block does where nothing else did."""
+    """A call that was made. It is ended once: by a reply, or as lost, which the end of its block does where
+    nothing else did."""
 
     __slots__ = ("history", "number", "operation")
 
@@ -110,7 +89,8 @@ class Call:
         return self.history.is_open(self)
 
     def reply(self, status: int, body: ReplyBody = None) -> None:
-        """Writes what was received: the status, and the body as it came. What is no JSON is left out, and so is unknown."""
+        """Writes what was received: the status, and the body as it came. What is no JSON is left out, and so
+        is unknown."""
         if not is_whole(status, 0, 65_535):
             raise CallError(f"a status is a whole number up to 65535, and not {status!r}")
         self.history.end_one(self, (status, text_of(body)))
@@ -120,14 +100,17 @@ class Call:
         self.history.end_one(self, Loss.UNKNOWN)
 
     def void(self) -> None:
-        """Writes that nothing was performed, at no attempt. It is for a refusal that proves this, and for no other fault."""
+        """Writes that nothing was performed, at no attempt. It is for a refusal that proves this, and for no
+        other fault."""
         self.history.end_one(self, Loss.VOID)
 
     # Replies by what they say, for a store that answers in other words than OpenSearch.
 
     def indexed(self, pair: Pair, created: bool) -> None:
         """The write was performed, with this pair, and made the document or replaced a version of it."""
-        self.says(WRITES_A_VALUE if created else ("index",), "indexed" if created else "indexed and not created")
+        self.says(
+            WRITES_A_VALUE if created else ("index",), "indexed" if created else "indexed and not created"
+        )
         result = "created" if created else "updated"
         self.tell(201 if created else 200, text_of_write(self.operation.id, result, checked_pair(pair)))
 
@@ -195,11 +178,13 @@ class Histories:
         shard: int = 0,
         client: str = "",
     ) -> Call:
-        """Writes the line of a call. Raises Ended where there is room for no more, CallError where it can't be a call."""
+        """Writes the line of a call. Raises Ended where there is room for no more, CallError where it can't
+        be a call."""
         return self.of_shard(shard).call_one(Operation(op, id, value, condition, shard, client))
 
     def end(self) -> None:
-        """Ends each history: its open calls are lost, and it takes no more. Without a call no file is left."""
+        """Ends each history: its open calls are lost, and it takes no more. Without a call no file is
+        left."""
         raise NotImplementedError
 
 
@@ -207,7 +192,8 @@ AnyHistories = TypeVar("AnyHistories", bound=Histories)
 
 
 class CallWriter(Histories):
-    """What numbers calls and writes their lines and those of their endings: a history, or one without end. Any thread may use it."""
+    """What numbers calls and writes their lines and those of their endings: a history, or one without end.
+    Any thread may use it."""
 
     def __init__(self, path: str) -> None:
         self.path = path
@@ -238,15 +224,19 @@ class CallWriter(Histories):
         """Puts a note on the next line, such as what was done to the store. The format reads past it."""
         raise NotImplementedError
 
-    def write(self, op: str, id: str, condition: Optional[Pair] = None, shard: int = 0, client: str = "") -> Call:
-        """Writes the line of an index or a create whose value is the number of its call, and so that of no other call.
+    def write(
+        self, op: str, id: str, condition: Optional[Pair] = None, shard: int = 0, client: str = ""
+    ) -> Call:
+        """Writes the line of an index or a create whose value is the number of its call, and so that of no
+        other call.
 
         So a get, or the store's log, shows which call wrote a value, even if the write was never answered.
         """
         return self.write_all([writing(Operation(op, id, None, condition, shard, client))])[0]
 
     def write_all(self, operations: Sequence[Operation]) -> List[Call]:
-        """The same as `call_all`, but each index and each create is given the number of its call as its value."""
+        """The same as `call_all`, but each index and each create is given the number of its call as its
+        value."""
         with self._lock:
             return self.call_all(numbered(operations, self.calls))
 
@@ -255,7 +245,8 @@ class CallWriter(Histories):
         raise NotImplementedError
 
     def call_all(self, operations: Sequence[Operation]) -> List[Call]:
-        """Writes the lines of several calls, such as the items of a bulk request: all of them or, where it raises, none."""
+        """Writes the lines of several calls, such as the items of a bulk request: all of them or, where it
+        raises, none."""
         raise NotImplementedError
 
     def is_open(self, call: Call) -> bool:
@@ -267,7 +258,8 @@ class CallWriter(Histories):
         raise NotImplementedError
 
     def end_all(self, endings: Sequence[Ending]) -> None:
-        """Writes the endings of several calls together. A call that has its ending already keeps it; at the end there is nothing to write."""
+        """Writes the endings of several calls together. A call that has its ending already keeps it; at the
+        end there is nothing to write."""
         raise NotImplementedError
 
     def lose(self, calls: Sequence[Call]) -> None:
@@ -282,11 +274,14 @@ class CallWriter(Histories):
 class History(CallWriter):
     """The file that a history text is written to.
 
-    Each line is in the file, whole, when the method that writes it returns. Where a line can't be written, as on a full
-    disk, what was written of it is cut off again, HistoryError is raised, and the history is at its end.
+    Each line is in the file, whole, when the method that writes it returns. Where a line can't be written, as
+    on a full disk, what was written of it is cut off again, HistoryError is raised, and the history is at its
+    end.
     """
 
-    def __init__(self, path: str, most_events: int = MOST_EVENTS, clock: Callable[[], float] = time.time) -> None:
+    def __init__(
+        self, path: str, most_events: int = MOST_EVENTS, clock: Callable[[], float] = time.time
+    ) -> None:
         super().__init__(path)
         self._clock = clock
         self._most_calls = min(most_events, MOST_EVENTS) // 2
@@ -296,8 +291,11 @@ class History(CallWriter):
         # what the next line carries
         self._note = ""
         try:
-            # (unbuffered, at the end of the file whoever else may write there, and never over a file that is there)
-            self._file = open(path, "xb", buffering=0, opener=lambda path, flags: os.open(path, flags | os.O_APPEND, 0o666))
+            # (unbuffered, at the end of the file whoever else may write there, and never over a file that is
+            # there)
+            self._file = open(
+                path, "xb", buffering=0, opener=lambda path, flags: os.open(path, flags | os.O_APPEND, 0o666)
+            )
         except OSError as fault:
             raise HistoryError(f"{path}: {fault.strerror}") from fault
 
@@ -314,7 +312,8 @@ class History(CallWriter):
     def note(self, text: str) -> None:
         """Puts a note on the next line.
 
-        Notes before the same line stand together. What is no ASCII is escaped; a note is cut off behind 1,000 letters.
+        Notes before the same line stand together. What is no ASCII is escaped; a note is cut off behind 1,000
+        letters.
         """
         plain = text.encode("ascii", "backslashreplace").decode()
         with self._lock:
@@ -342,14 +341,22 @@ class History(CallWriter):
                 if self._shards.setdefault(it.id, it.shard) != it.shard:
                     raise self._on_other_shard(it)
             first, now = self.calls, self._now()
-            self._write("".join([f'{{"e":"call","n":{number},"t":{now},{it}\n' for number, it in enumerate(members, first)]))
+            self._write(
+                "".join(
+                    [
+                        f'{{"e":"call","n":{number},"t":{now},{it}\n'
+                        for number, it in enumerate(members, first)
+                    ]
+                )
+            )
             self.calls += len(members)
             self._open.update(range(first, self.calls))
         return [Call(self, number, it) for number, it in enumerate(operations, first)]
 
     def _on_other_shard(self, operation: Operation) -> CallError:
         """Why an operation is refused that names a document on another shard than the first call did."""
-        return CallError(f"the document {operation.id!r} is on shard {self._shards[operation.id]}, and not on {operation.shard}")
+        shard = self._shards[operation.id]
+        return CallError(f"the document {operation.id!r} is on shard {shard}, and not on {operation.shard}")
 
     def is_open(self, call: Call) -> bool:
         with self._lock:
@@ -385,10 +392,13 @@ class History(CallWriter):
     def lose(self, calls: Sequence[Call]) -> None:
         with self._lock:
             if not self.has_ended:
-                self._lose([number for number in dict.fromkeys(it.number for it in calls) if number in self._open])
+                self._lose(
+                    [number for number in dict.fromkeys(it.number for it in calls) if number in self._open]
+                )
 
     def end(self) -> None:
-        """Writes the calls that are open as lost, and closes the file; later calls, and endings of one call, raise Ended.
+        """Writes the calls that are open as lost, and closes the file; later calls, and endings of one call,
+        raise Ended.
 
         A file without a call is removed: an empty text would be a history, and a right one.
         """
@@ -480,52 +490,12 @@ def writing(operation: Operation) -> Operation:
 
 
 def numbered(operations: Sequence[Operation], first: int) -> List[Operation]:
-    """The operations of calls that are numbered from the first one; each that writes a value has the number of its call as it."""
-    return [it._replace(value=number) if it.op in WRITES_A_VALUE else it for number, it in enumerate(operations, first)]
+    """The operations of calls that are numbered from the first one; each that writes a value has the number
+    of its call as it."""
+    return [
+        it._replace(value=number) if it.op in WRITES_A_VALUE else it
+        for number, it in enumerate(operations, first)
+    ]
 
 
 # The text of a line
-
-
-
-
-
-
-
-
-
-
-
-
-
-
-
-
-
-
-
-
-
-
-
-
-
-
-
-
-
-
-
-
-
-
-
-
-
-
-
-
-
-
-
-

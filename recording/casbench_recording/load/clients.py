@@ -5,9 +5,10 @@
         load.add_clients(8, store)
         load.run()
 
-What the store is, a `Store` says: how to connect to a node of it, what is sent for a call, and what its answer says. The rest is here:
-each client makes its calls one after another, and each call has its line before its request and its reply's line after the whole answer.
-A call whose answer doesn't come, or says nothing, is lost; then the client leaves the node for the next one.
+What the store is, a `Store` says: how to connect to a node of it, what is sent for a call, and what its
+answer says. The rest is here: each client makes its calls one after another, and each call has its line
+before its request and its reply's line after the whole answer. A call whose answer doesn't come, or says
+nothing, is lost; then the client leaves the node for the next one.
 """
 
 import contextlib
@@ -38,8 +39,9 @@ from casbench_recording.history.writing import NoOutcome as NoOutcome
 WRITES = ("index", "create", "delete", "index-if", "delete-if")
 
 MIXTURE = {"get": 6, "index": 2, "create": 1, "delete": 1, "index-if": 6, "delete-if": 1}
-"""How often each kind of turn is drawn. `index-if` and `delete-if` read the document and write it under the pair that was read. `bulk`, for
-a store that takes such requests, makes several writes by one; their conditions are the pairs that the client received last."""
+"""How often each kind of turn is drawn. `index-if` and `delete-if` read the document and write it under the
+pair that was read. `bulk`, for a store that takes such requests, makes several writes by one; their
+conditions are the pairs that the client received last."""
 
 ANY_NUMBER = 2**62
 """The calls of a client that goes on until the history is full, or the load is over."""
@@ -75,8 +77,10 @@ class Kind(enum.Enum):
 
 @dataclass(frozen=True)
 class Outcome:
-    """What an answer says of a call. `pair` is that of the change, or of the version that was found with the value `k`. `seen` is the pair
-    of the last change that the answer had seen, if the store says so: a witness needs it of gets and conflicts."""
+    """What an answer says of a call. `pair` is that of the change, or of the version that was found with the
+    value `k`. `seen` is the pair of the last change that the answer had seen, if the store says so: a witness
+    needs it of gets and conflicts.
+    """
 
     kind: Kind
     pair: Optional[Pair] = None
@@ -130,7 +134,8 @@ class Session(Protocol):
         """Sends what the call asks. Raises NoOutcome if it may not have been sent whole."""
 
     def outcome(self, call: Call) -> CallResult:
-        """Waits for the answer to what was sent, as long as the store's deadline for a call, and returns what it says. Raises NoOutcome."""
+        """Waits for the answer to what was sent, as long as the store's deadline for a call, and returns what
+        it says. Raises NoOutcome."""
 
     def close(self) -> None:
         """Closes the connection, also if an answer is owed."""
@@ -143,7 +148,8 @@ class BulkSession(Session, Protocol):
         """Sends what the calls ask. Raises NoOutcome."""
 
     def outcomes(self, calls: Sequence[Call]) -> Sequence[Optional[CallResult]]:
-        """Waits for the answer, and returns what it says of each call, or None where it says nothing. Raises NoOutcome."""
+        """Waits for the answer, and returns what it says of each call, or None where it says nothing. Raises
+        NoOutcome."""
 
 
 class Store(Protocol):
@@ -163,7 +169,8 @@ class NamedStore(Store, Protocol):
 
 
 class Draw:
-    """What is drawn from a seed. `random()` alone is called: its numbers are the same in every release of Python."""
+    """What is drawn from a seed. `random()` alone is called: its numbers are the same in every release of
+    Python."""
 
     def __init__(self, seed: str) -> None:
         self.random = random.Random(seed).random
@@ -188,8 +195,9 @@ class Draw:
 
 @dataclass(frozen=True)
 class Habits:
-    """What a client does: how often which turn, on how many documents, how many of a thousand answers it drops, whether it stays with its
-    node after a fault, how many calls it makes at most, and how many writes a bulk request of it has."""
+    """What a client does: how often which turn, on how many documents, how many of a thousand answers it
+    drops, whether it stays with its node after a fault, how many calls it makes at most, and how many writes
+    a bulk request of it has."""
 
     mixture: Mapping[str, int]
     documents: int = 8
@@ -213,7 +221,13 @@ class Client(threading.Thread):
 
     def __init__(self, load: "Load", store: Store, node: int, habits: Habits, draw: Draw) -> None:
         super().__init__(daemon=True)
-        self.load, self.store, self.node, self.habits, self.draw = load, store, node % store.nodes, habits, draw
+        self.load, self.store, self.node, self.habits, self.draw = (
+            load,
+            store,
+            node % store.nodes,
+            habits,
+            draw,
+        )
         self.session: Optional[Session] = None
         self.names = store.names if isinstance(store, NamedStore) else [""] * store.nodes
         self.calls = 0
@@ -238,7 +252,9 @@ class Client(threading.Thread):
         self.load.wait_if_held(self)
         document, kind = self.document(), self.draw.one_of(self.habits.mixture)
         if kind == "bulk":
-            drawn = [(self.document(), self.draw.one_of(self.habits.writes)) for _ in range(self.habits.bulk_items)]
+            drawn = [
+                (self.document(), self.draw.one_of(self.habits.writes)) for _ in range(self.habits.bulk_items)
+            ]
             self.make_bulk([operation_of(it, id, self.known.get(id)) for id, it in drawn])
         else:
             pair = self.make(Operation("get", document)) if kind.endswith("-if") else None
@@ -281,7 +297,9 @@ class Client(threading.Thread):
     def begin(self, operations: Sequence[Operation]) -> List[Call]:
         """Writes the lines of calls. The value of a write is the number of its call."""
         name = self.names[self.node]
-        calls = self.load.history.write_all([it._replace(node=name) for it in operations] if name else operations)
+        calls = self.load.history.write_all(
+            [it._replace(node=name) for it in operations] if name else operations
+        )
         self.calls += len(calls)
         return calls
 
@@ -336,7 +354,8 @@ class Client(threading.Thread):
 
 
 def operation_of(kind: str, id: str, pair: Optional[Pair]) -> Operation:
-    """The call of a kind. A write under a condition is, if no pair is known, one that needs nothing to be there."""
+    """The call of a kind. A write under a condition is, if no pair is known, one that needs nothing to be
+    there."""
     op, _, is_swap = kind.partition("-")
     if not is_swap:
         return Operation(op, id)
@@ -344,7 +363,8 @@ def operation_of(kind: str, id: str, pair: Optional[Pair]) -> Operation:
 
 
 class Load:
-    """Clients of one history. It notes by the number of each answered call what its answer had seen, for a witness."""
+    """Clients of one history. It notes by the number of each answered call what its answer had seen, for a
+    witness."""
 
     def __init__(self, history: CallWriter, seed: int, has_ended: Callable[[], bool] = lambda: False) -> None:
         self.history, self.seed, self.has_ended = history, seed, has_ended
@@ -354,10 +374,15 @@ class Load:
         self.seen: Dict[int, Pair] = {}
         self.held: Dict[Client, threading.Event] = {}
 
-    def add_clients(self, count: int, store: Store, habits: Habits = Habits(MIXTURE), node: Optional[int] = None) -> List[Client]:
+    def add_clients(
+        self, count: int, store: Store, habits: Habits = Habits(MIXTURE), node: Optional[int] = None
+    ) -> List[Client]:
         """Adds clients; each begins with the node that is named, else with another one."""
         first = len(self.clients)
-        added = [Client(self, store, it if node is None else node, habits, Draw(f"{self.seed}/{it}")) for it in range(first, first + count)]
+        added = [
+            Client(self, store, it if node is None else node, habits, Draw(f"{self.seed}/{it}"))
+            for it in range(first, first + count)
+        ]
         self.clients += added
         return added
 
@@ -366,8 +391,8 @@ class Load:
         return bool(self.faults) or not self.history.room or self.has_ended()
 
     def run(self, disturb: Callable[[], None] = lambda: None, calls_between: int = 600) -> None:
-        """Runs the clients until all have made their calls, and disturbs the store each time there are so many more. If it is interrupted it
-        doesn't wait for calls that are open."""
+        """Runs the clients until all have made their calls, and disturbs the store each time there are so
+        many more. If it is interrupted it doesn't wait for calls that are open."""
         for client in self.clients:
             client.start()
         try:
@@ -390,7 +415,11 @@ class Load:
     def wait_for_each(self, clients: List[Client], most: float) -> None:
         """Waits until each of these clients has made one more call, so many seconds at most."""
         before, last = [it.calls for it in clients], time.monotonic() + most
-        while any(it.calls == calls for it, calls in zip(clients, before)) and time.monotonic() < last and self.is_running():
+        while (
+            any(it.calls == calls for it, calls in zip(clients, before))
+            and time.monotonic() < last
+            and self.is_running()
+        ):
             time.sleep(0.005)
 
     def is_running(self) -> bool:

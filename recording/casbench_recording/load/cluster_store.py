@@ -19,12 +19,16 @@ def condition_of(operation: Operation) -> Dict[str, int]:
     return {"if_seq_no": pair.seq, "if_primary_term": pair.term} if pair is not None else {}
 
 
-def request_of(index: str, operation: Operation, asks_primary: bool = False) -> Tuple[str, str, Optional[str]]:
+def request_of(
+    index: str, operation: Operation, asks_primary: bool = False
+) -> Tuple[str, str, Optional[str]]:
     """The method, path and body of the request of one call; a get may be one that the primary answers."""
     method = {"get": "GET", "index": "PUT", "create": "PUT", "delete": "DELETE"}[operation.op]
     room = "_create" if operation.op == "create" else "_doc"
-    words = {"preference": PRIMARY} if asks_primary and operation.op == "get" else condition_of(operation)
-    query = urllib.parse.urlencode(words)
+    parameters: Dict[str, Any] = (
+        {"preference": PRIMARY} if asks_primary and operation.op == "get" else condition_of(operation)
+    )
+    query = urllib.parse.urlencode(parameters)
     path = f"/{index}/{room}/{urllib.parse.quote(operation.id, safe='')}" + ("?" + query if query else "")
     return method, path, source_of(operation)
 
@@ -118,7 +122,8 @@ class ClusterSession:
 
 
 class ClusterStore:
-    """The nodes of a cluster. Who connects waits for it as long as patience says, and no longer than the load lasts."""
+    """The nodes of a cluster. Who connects waits for it as long as patience says, and no longer than the load
+    lasts."""
 
     def __init__(self, setting: argparse.Namespace, is_over: Callable[[], bool]) -> None:
         self.setting, self.is_over = setting, is_over

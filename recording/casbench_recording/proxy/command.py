@@ -1,15 +1,15 @@
 """A proxy that records what the clients of an application ask of a cluster, as a history text for casbench.
 
-    python3 -m casbench_recording.proxy --listen 127.0.0.1:9201 --cluster http://127.0.0.1:9200 --index carts carts.ndjson
+    python3 -m casbench_recording.proxy --cluster http://127.0.0.1:9200 --index carts carts.ndjson
     casbench check carts.ndjson
 
-Applications ask it, without encryption, and don't look for nodes by themselves (sniffing). It passes on each request and each answer
-unchanged, but for the offer of another protocol (`Upgrade`, `HTTP2-Settings`) and, with --set-host, the host, and writes down the calls on
-documents of the index that it can interpret exactly. What it can't isn't guessed: docs/RECORDING.md says what becomes of it. Ctrl-C ends
-it.
+Applications ask it, without encryption, and don't look for nodes by themselves (sniffing). It passes on each
+request and each answer unchanged, but for the offer of another protocol (`Upgrade`, `HTTP2-Settings`) and,
+with --set-host, the host, and writes down the calls on documents of the index that it can interpret exactly.
+What it can't isn't guessed: docs/RECORDING.md says what becomes of it. Ctrl-C ends it.
 
-Who asks is a matter of the clients. For what the proxy asks itself, before it listens, the environment tells it: see
-`casbench_recording.record`.
+Who asks is a matter of the clients. For what the proxy asks itself, before it listens, the environment tells
+it: see `casbench_recording.record`.
 """
 
 import argparse
@@ -74,19 +74,6 @@ SECONDS_TO_ASK = 30.0
 """For how many seconds the proxy waits for a word of an answer to its own questions."""
 
 
-
-
-
-
-
-
-
-
-
-
-
-
-
 # The command line
 
 
@@ -108,15 +95,31 @@ def node_of(text: str) -> Tuple[Tuple[str, int], Url]:
 
 def parse_arguments(arguments: Sequence[str]) -> argparse.Namespace:
     """Reads the words of the command."""
-    parser = argparse.ArgumentParser(prog=usage_name("proxy"), description="Records what clients ask of a cluster as a history for casbench.")
+    parser = argparse.ArgumentParser(
+        prog=usage_name("proxy"),
+        description="Records what clients ask of a cluster as a history for casbench.",
+    )
     add = parser.add_argument
-    add("--listen", type=listened, default=("127.0.0.1", 9201), help="where clients ask, as 127.0.0.1:9201; port 0: one that is free")
+    add(
+        "--listen",
+        type=listened,
+        default=("127.0.0.1", 9201),
+        help="where clients ask, as 127.0.0.1:9201; port 0: one that is free",
+    )
     add("--cluster", type=url_of, required=True, help="the cluster's address, as https://host:9200")
-    node = "a node beside that of --cluster, which clients reach at another address, as 127.0.0.1:9202=http://node-2:9200"
+    node = "one more node, and the address where its clients ask, as 127.0.0.1:9202=http://node-2:9200"
     add("--node", type=node_of, action="append", default=[], metavar="HOST:PORT=URL", help=node)
     add("--index", required=True, help="the index whose documents are judged, by its name or an alias")
-    add("--documents", type=lambda text: frozenset(text.split(",")), help="the ids of new documents, which alone are judged")
-    add("--created-only", action="store_true", help="judge only documents that are seen created, in an index that isn't empty")
+    add(
+        "--documents",
+        type=lambda text: frozenset(text.split(",")),
+        help="the ids of new documents, which alone are judged",
+    )
+    add(
+        "--created-only",
+        action="store_true",
+        help="judge only documents that are seen created, in an index that isn't empty",
+    )
     settle = "how many seconds after its start the proxy begins to record an index that isn't empty (60)"
     add("--settle", type=number_from(0, float), metavar="S", default=60.0, help=settle)
     add("--by-shard", action="store_true", help="write a file for each shard, into a folder that is made")
@@ -125,16 +128,46 @@ def parse_arguments(arguments: Sequence[str]) -> argparse.Namespace:
     add("--most-documents", type=number_from(2), metavar="N", default=MOST_KEPT, help=most)
     add_reading_options(add)
     add_watch_options(add)
-    add("--disturb", type=read_plan, metavar="PLAN", default=[], help="run the commands of this plan meanwhile, to disturb the cluster")
-    add("--stop-when-ended", action="store_true", help="end the proxy too when the recording ends before its time")
+    add(
+        "--disturb",
+        type=read_plan,
+        metavar="PLAN",
+        default=[],
+        help="run the commands of this plan meanwhile, to disturb the cluster",
+    )
+    add(
+        "--stop-when-ended",
+        action="store_true",
+        help="end the proxy too when the recording ends before its time",
+    )
     add_certificate_options(add)
-    add("--set-host", action="store_true", help="pass requests on with the host of the node's address in their field Host")
-    add("--patience", type=number_from(0, float), default=START_PATIENCE, help="seconds to wait at first for the cluster (5)")
-    add("--paths-unchanged", action="store_true", help="nothing between the proxy and the cluster normalises paths")
-    add("--idle", type=number_from(1, float), default=300.0, help="after how many seconds a connection on which nothing happens is closed (300)")
+    add(
+        "--set-host",
+        action="store_true",
+        help="pass requests on with the host of the node's address in their field Host",
+    )
+    add(
+        "--patience",
+        type=number_from(0, float),
+        default=START_PATIENCE,
+        help="seconds to wait at first for the cluster (5)",
+    )
+    add(
+        "--paths-unchanged",
+        action="store_true",
+        help="nothing between the proxy and the cluster normalises paths",
+    )
+    add(
+        "--idle",
+        type=number_from(1, float),
+        default=300.0,
+        help="after how many seconds a connection on which nothing happens is closed (300)",
+    )
     add("file", metavar="OUT", help="the file that the history is written to, and must not be there")
     setting = parser.parse_args(arguments)
-    setting.certificates = certificates_of(parser, setting, (setting.cluster, *(url for _, url in setting.node)))
+    setting.certificates = certificates_of(
+        parser, setting, (setting.cluster, *(url for _, url in setting.node))
+    )
     if setting.by_shard and setting.part is not None:
         parser.error("--by-shard and --parts exclude each other: a part has the calls of all shards")
     setting.reading = reading_of(setting)
@@ -142,7 +175,8 @@ def parse_arguments(arguments: Sequence[str]) -> argparse.Namespace:
 
 
 def begin(setting: argparse.Namespace, inspector: Inspector) -> Tuple[Optional[Shape], DocumentState]:
-    """Looks at the index; tells what it is, and what is known of a document that is seen first. One that isn't empty is refused."""
+    """Looks at the index; tells what it is, and what is known of a document that is seen first. One that
+    isn't empty is refused."""
     inspector.connection.open(setting.patience)
     shape = inspector.inspect(setting.index)
     if shape is None:
@@ -154,18 +188,24 @@ def begin(setting: argparse.Namespace, inspector: Inspector) -> Tuple[Optional[S
             raise ClusterError(f"the document {document} is there already: a history begins without it")
     if setting.documents is None and not setting.created_only:
         ways = "--documents judges new ones that you name, --created-only those that are seen created"
-        raise ClusterError(f"the index {setting.index} isn't empty, and what its documents are isn't known: {ways}")
+        raise ClusterError(
+            f"the index {setting.index} isn't empty, and what its documents are isn't known: {ways}"
+        )
     return shape, DocumentState.UNSURE if setting.created_only or setting.settle else DocumentState.JUDGED
 
 
 def served_node(setting: argparse.Namespace, listen: Tuple[str, int], url: Url) -> ProxiedNode:
     """A node of the cluster, and where its clients ask."""
-    cluster = ClusterAccess(url, SECONDS_TO_ASK, credentials_of(os.environ), trust_of(url, setting.certificates))
+    cluster = ClusterAccess(
+        url, SECONDS_TO_ASK, credentials_of(os.environ), trust_of(url, setting.certificates)
+    )
     if cluster.trust is not None:
         cluster.trust.options |= NO_RENEGOTIATION
     sent_host = url.netloc.encode("idna") if setting.set_host else b""
     addresses = Addresses(str(url.hostname), port_of(url))
-    return ProxiedNode(*listen, cluster, addresses, name_of(url), Paths(url.path, setting.paths_unchanged), sent_host)
+    return ProxiedNode(
+        *listen, cluster, addresses, name_of(url), Paths(url.path, setting.paths_unchanged), sent_host
+    )
 
 
 def proxy_of(setting: argparse.Namespace) -> Proxy:
@@ -175,7 +215,9 @@ def proxy_of(setting: argparse.Namespace) -> Proxy:
     shape, first = begin(setting, inspector)
     unjudged = UnjudgedList(setting.file)
     raise_limit()
-    judge = Judge(shape, setting.index, history_of(setting), unjudged, first, setting.documents, setting.most_documents)
+    judge = Judge(
+        shape, setting.index, history_of(setting), unjudged, first, setting.documents, setting.most_documents
+    )
     return Proxy(setting, nodes, inspector, judge)
 
 
@@ -203,12 +245,15 @@ def raise_limit() -> None:
     wanted = 2 * MOST_CLIENTS + SPARE
     if limit < wanted:
         with contextlib.suppress(OSError, ValueError):
-            resource.setrlimit(resource.RLIMIT_NOFILE, (wanted if most == resource.RLIM_INFINITY else min(wanted, most), most))
+            resource.setrlimit(
+                resource.RLIMIT_NOFILE,
+                (wanted if most == resource.RLIM_INFINITY else min(wanted, most), most),
+            )
 
 
 def run(arguments: Sequence[str]) -> int:
-    """Records by the words given, and returns the exit status: 0 recorded, 1 a named error, 3 the recording ended early, 4 it can't
-    be checked, 130 interrupted."""
+    """Records by the words given, and returns the exit status: 0 recorded, 1 a named error, 3 the recording
+    ended early, 4 it can't be checked, 130 interrupted."""
     open_standard_files()
     setting = parse_arguments(arguments)
     gc.set_threshold(100_000, 50, 50)
@@ -222,7 +267,9 @@ def run(arguments: Sequence[str]) -> int:
             watcher = stack.enter_context(watcher_of(setting, proxy)) if setting.watch else None
             # (before the watch ends, so that its last check has the last line)
             stack.callback(proxy.judge.close)
-            stack.enter_context(Progress(lambda: counts_of(proxy.judge), remark=lambda: remark_of(proxy.judge)))
+            stack.enter_context(
+                Progress(lambda: counts_of(proxy.judge), remark=lambda: remark_of(proxy.judge))
+            )
             proxy.loop.stop_at(signal.SIGINT, signal.SIGTERM)
             proxy.listen(lambda address: tell(f"{address}\n", seconds=1.0))
             tell_last(lines)
@@ -245,19 +292,24 @@ def run(arguments: Sequence[str]) -> int:
 
 def watcher_of(setting: argparse.Namespace, proxy: Proxy) -> WatchProcess:
     """The watch of the recording, which ends the proxy at the first fault that is proved."""
-    proxy.watcher = WatchProcess(setting.file, watch_options(setting), lambda: proxy.loop.call(proxy.loop.stop), tell_line)
+    proxy.watcher = WatchProcess(
+        setting.file, watch_options(setting), lambda: proxy.loop.call(proxy.loop.stop), tell_line
+    )
     return proxy.watcher
 
 
 def tell_end(setting: argparse.Namespace, proxy: Proxy) -> None:
-    """Tells what was recorded, what isn't judged, and which check fits, unless it is the one without options."""
+    """Tells what was recorded, what isn't judged, and which check fits, unless it is the one without
+    options."""
     judge, fits = proxy.judge, proxy.default_reading.command
     calls, _ = counts_of(judge)
     unanswered, documents = sum(it.unanswered for it in judge.history.histories), judge.documents
     if calls:
         judged = f"{counted(documents.judged, 'document')}, {counted(calls, 'call')}"
         left_out = f"{counted(judge.unjudged.count, 'document')}, {counted(documents.left_out, 'call')}"
-        recorded = f"recorded {counted(calls, 'call')} in {setting.file}, {unanswered} of them without a reply"
+        recorded = (
+            f"recorded {counted(calls, 'call')} in {setting.file}, {unanswered} of them without a reply"
+        )
         tell_last([recorded, f"judged: {judged}; not judged: {left_out}"], 1)
         tell_last([f"the check that fits: {fits}"] if fits is not None else [], 1)
     tell_last([*([] if calls else ["no call was made, so there is no file"]), *judge.unjudged.told()])
@@ -265,5 +317,6 @@ def tell_end(setting: argparse.Namespace, proxy: Proxy) -> None:
 
 def main() -> NoReturn:
     """Records by the arguments of the process, and ends it."""
-    # (at once: to take down what is known of half a million calls would take longer than to write them as lost)
+    # (at once: to take down what is known of half a million calls would take longer than to write them as
+    # lost)
     os._exit(run(sys.argv[1:]))

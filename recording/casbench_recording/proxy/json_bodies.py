@@ -1,4 +1,5 @@
-"""What the JSON bodies of requests say, however it is spelled: with escapes, with keys that come twice, with numbers in the place of texts."""
+"""What the JSON bodies of requests say, however it is spelled: with escapes, with keys that come twice, with
+numbers in the place of texts."""
 
 import json
 from typing import Any, Callable, Dict, List, Optional, Tuple
@@ -20,10 +21,12 @@ def only_once(pairs: List[Tuple[str, Any]]) -> Dict[str, Any]:
 
 
 LONGEST_NUMBER = 4300
-"""The most digits of a whole number that is read: the time that takes grows with their square. Later releases of Python have this limit."""
+"""The most digits of a whole number that is read: the time that takes grows with their square. Later releases
+of Python have this limit."""
 
 HALF = LONGEST_NUMBER // 2
-"""Half as many digits: if a number has more than twice as many, wherever it begins, they fill one of the pieces of this length."""
+"""Half as many digits: if a number has more than twice as many, wherever it begins, they fill one of the
+pieces of this length."""
 
 
 def whole_number(digits: str) -> int:
@@ -38,7 +41,8 @@ SPACE = " \t\n\r"
 
 
 def reader(**settings: Any) -> Callable[[str], Any]:
-    """What reads whole JSON texts with a decoder of these settings, and raises ValueError if a text is none."""
+    """What reads whole JSON texts with a decoder of these settings, and raises ValueError if a text is
+    none."""
     read_first = json.JSONDecoder(**settings).raw_decode
 
     def read(text: str) -> Any:
@@ -64,19 +68,22 @@ def read_json(text: str) -> Any:
 
 
 def may_have_long_number(text: str) -> bool:
-    """Whether a number in a text may have too many digits: then one of the pieces of half that length has nothing but digits."""
+    """Whether a number in a text may have too many digits: then one of the pieces of half that length has
+    nothing but digits."""
     return any(text[at : at + HALF].isdecimal() for at in range(0, len(text), HALF))
 
 
 read_action = reader(object_pairs_hook=only_once, parse_int=str)
-"""The value of the action of a bulk request's item. A server takes a whole number for the text by which it is spelled: -0 isn't 0."""
+"""The value of the action of a bulk request's item. A server takes a whole number for the text by which it is
+spelled: -0 isn't 0."""
 
 read_spelled = reader(object_pairs_hook=only_once, parse_int=str, parse_float=str, parse_constant=str)
 """The value of a JSON text in which no key comes twice, and a number is the text by which it is spelled."""
 
 
 def action_of(line: bytes) -> Optional[Dict[str, Any]]:
-    """The action that a line of a bulk request tells, or None if it is none that each reader takes for the same."""
+    """The action that a line of a bulk request tells, or None if it is none that each reader takes for the
+    same."""
     try:
         action = read_action(line.decode("utf-8"))
     except (ValueError, RecursionError):

@@ -1,4 +1,5 @@
-"""The proxy at work: the nodes that it serves, its clients, how much it holds for them, and the recording of what they ask."""
+"""The proxy at work: the nodes that it serves, its clients, how much it holds for them, and the recording of
+what they ask."""
 
 import argparse
 import functools
@@ -42,7 +43,10 @@ SPARE = 32
 LEAST_IDLE = 1.0
 """For how many seconds nothing happened on a connection that is closed to make room for another one."""
 
-ADVICE = "requests are still passed on, and no longer recorded: end the proxy, check what was recorded, and record again on an empty index"
+ADVICE = (
+    "requests are still passed on, and no longer recorded: end the proxy, check what was recorded, "
+    "and record again on an empty index"
+)
 """What the operator does about a recording that ended early."""
 
 SECONDS_BETWEEN = 10.0
@@ -50,8 +54,9 @@ SECONDS_BETWEEN = 10.0
 
 
 class ProxiedNode(NamedTuple):
-    """A node of the cluster: where its clients ask, where it is, its addresses and its name, which are of that, how the paths of requests
-    lead to it, and the host that stands in those that are passed on, if it isn't the clients' own."""
+    """A node of the cluster: where its clients ask, where it is, its addresses and its name, which are of
+    that, how the paths of requests lead to it, and the host that stands in those that are passed on, if it
+    isn't the clients' own."""
 
     host: str
     port: int
@@ -89,7 +94,9 @@ class RefusedConnection:
 class Proxy:
     """The proxy: its nodes, its clients, and the judge of what they ask."""
 
-    def __init__(self, setting: argparse.Namespace, nodes: Sequence[ProxiedNode], inspector: Inspector, judge: Judge) -> None:
+    def __init__(
+        self, setting: argparse.Namespace, nodes: Sequence[ProxiedNode], inspector: Inspector, judge: Judge
+    ) -> None:
         self.setting = setting
         self.nodes = nodes
         self.inspector = inspector
@@ -98,7 +105,9 @@ class Proxy:
         self.loop = Loop()
         self._listeners: List[Listener] = []
         # (None once the index was found, or the recording ended)
-        self.discovery: Optional[IndexDiscovery] = None if judge.shape is not None else IndexDiscovery(self.loop, inspector, setting.index, judge)
+        self.discovery: Optional[IndexDiscovery] = (
+            None if judge.shape is not None else IndexDiscovery(self.loop, inspector, setting.index, judge)
+        )
         # how many bytes of messages are kept
         self.held = 0
         self._told_of_room = float("-inf")
@@ -115,20 +124,22 @@ class Proxy:
         self.loop.ticks[self._tick] = None
 
     def begin(self) -> List[str]:
-        """Takes what is known of the index at first; the lines on it, which are reported behind the addresses."""
+        """Takes what is known of the index at first; the lines on it, which are reported behind the
+        addresses."""
         lines: List[str] = []
         if self.judge.shape is not None:
             self._found(self.judge.shape, lambda text: lines.append(f"casbench_recording.proxy: {text}"))
         return lines
 
     def _found(self, shape: Shape, tell: Callable[[str], object] = tell_line) -> None:
-        """Takes what the index is, for which check fits, and for when the recording begins: if others wrote to the index, once what they
-        asked is over."""
+        """Takes what the index is, for which check fits, and for when the recording begins: if others wrote
+        to the index, once what they asked is over."""
         self.default_reading.take(shape, tell)
         seconds = self._settles_to - self.loop.now
         if not shape.is_empty and self.judge.documents.first is DocumentState.UNSURE and seconds > 0:
             self.judge.settle()
-            tell(f"the index {shape.name} isn't empty: the recording begins in {seconds:.0f} s, and requests are passed on meanwhile (--settle)")
+            begins = f"the index {shape.name} isn't empty: the recording begins in {seconds:.0f} s"
+            tell(f"{begins}, and requests are passed on meanwhile (--settle)")
 
     def plan(self) -> List[Disturbance]:
         """The disturbances that are planned, whose times count from the beginning of the recording."""
@@ -142,10 +153,15 @@ class Proxy:
             self.watcher.change(watch_options(self.setting))
 
     def accept(self, node: ProxiedNode, connection: socket.socket) -> None:
-        """Takes a client's connection, to a node. If there are too many the one that was idle longest is closed, or this one is refused."""
+        """Takes a client's connection, to a node. If there are too many the one that was idle longest is
+        closed, or this one is refused."""
         if len(self.clients) >= self.most_clients:
             waited = self.loop.now - LEAST_IDLE
-            idle = min((it for it in self.clients if it.exchange is None and it.active_at <= waited), key=lambda it: it.active_at, default=None)
+            idle = min(
+                (it for it in self.clients if it.exchange is None and it.active_at <= waited),
+                key=lambda it: it.active_at,
+                default=None,
+            )
             if idle is None:
                 self._tell_no_room()
                 RefusedConnection(self.loop, connection)
@@ -167,11 +183,13 @@ class Proxy:
             tell_line(f"{len(self.clients)} clients are connected, and more are answered with status 503")
 
     def warn_of_nodes(self, request: Request) -> None:
-        """Warns the operator, once, that a client asks where the nodes are, and may then ask them past the proxy."""
+        """Warns the operator, once, that a client asks where the nodes are, and may then ask them past the
+        proxy."""
         if not self._has_warned_of_nodes:
             self._has_warned_of_nodes = True
             request_line = shown_request(request.method, request.target.partition(b"?")[0].decode("latin-1"))
-            tell_line(f"a client asks where the nodes are ({request_line}): what it asks them itself isn't recorded, so turn sniffing off")
+            advice = "what it asks them itself isn't recorded, so turn sniffing off"
+            tell_line(f"a client asks where the nodes are ({request_line}): {advice}")
 
     def connect(self, node: ProxiedNode, made: Made) -> Connecting:
         """Makes a connection to a node of the cluster."""
@@ -189,7 +207,8 @@ class Proxy:
         return self.held + self.loop.waiting <= MOST_HELD
 
     def hold(self, count: int) -> None:
-        """Heeds that so many bytes more are kept. If it is too much the client that has most of it is given up."""
+        """Heeds that so many bytes more are kept. If it is too much the client that has most of it is given
+        up."""
         self.held += count
         if self.held + self.loop.waiting > MOST_WAITING:
             self.loop.soon(self._shed)
@@ -203,7 +222,8 @@ class Proxy:
             most.connection_lost()
 
     def _ended(self, why: str) -> None:
-        """Says at once that the recording ended before its time, and what to do; ends the proxy too if that is asked for."""
+        """Says at once that the recording ended before its time, and what to do; ends the proxy too if that
+        is asked for."""
         if self.setting.stop_when_ended:
             self.loop.stop()
         advice = "the proxy ends" if self.setting.stop_when_ended else ADVICE

@@ -64,13 +64,19 @@ def performed(shard: ShardId, entry: Entry, was_there: bool, shards: Dict[str, i
         status, result = (200, "deleted") if was_there else (404, "not_found")
     else:
         status, result = (200, "updated") if was_there else (201, "created")
-    body = {"_index": shard.index, "_id": entry.document, "_version": entry.changes, "result": result, "_shards": shards}
+    body = {
+        "_index": shard.index_name,
+        "_id": entry.document,
+        "_version": entry.changes,
+        "result": result,
+        "_shards": shards,
+    }
     return status, {**body, "_seq_no": entry.number, "_primary_term": entry.term}
 
 
 def unchanged(shard: ShardId, entry: Entry) -> Answer:
     """The answer to an update that would change nothing."""
-    body = {"_index": shard.index, "_id": entry.document, "_version": entry.changes, "result": "noop"}
+    body = {"_index": shard.index_name, "_id": entry.document, "_version": entry.changes, "result": "noop"}
     shards = {"total": 0, "successful": 0, "failed": 0}
     return 200, {**body, "_shards": shards, "_seq_no": entry.number, "_primary_term": entry.term}
 
@@ -84,8 +90,11 @@ def conflict(shard: ShardId, document: str, last: Optional[Entry], parameters: R
         found = f"current document has seqNo [{last.number}] and primary term [{last.term}]" if last else ""
         why += found if is_there else "but no document was found"
     elif "version" in parameters:
-        why = f"current version [{last.changes if last else -1}] is higher or equal to the one provided [{parameters['version']}]"
+        current, provided = last.changes if last else -1, parameters["version"]
+        why = f"current version [{current}] is higher or equal to the one provided [{provided}]"
     else:
         why = f"document already exists (current version [{last.changes if last else 1}])"
     reason = f"[{document}]: version conflict, {why}"
-    return error(409, "version_conflict_engine_exception", reason, index=shard.index, shard=str(shard.number))
+    return error(
+        409, "version_conflict_engine_exception", reason, index=shard.index_name, shard=str(shard.number)
+    )

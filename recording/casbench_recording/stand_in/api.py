@@ -34,7 +34,9 @@ async def answer_to(coordinator: Coordinator, request: ParsedRequest) -> Answer:
             return await action(coordinator, request)
     except (KeyError, TypeError, ValueError, AttributeError) as fault:
         return error(400, "parse_exception", str(fault))
-    return error(400, "illegal_argument_exception", f"the stand-in has no {request.method} /{'/'.join(request.path)}")
+    return error(
+        400, "illegal_argument_exception", f"the stand-in has no {request.method} /{'/'.join(request.path)}"
+    )
 
 
 def action_for(request: ParsedRequest) -> Optional[Action]:
@@ -53,7 +55,9 @@ def write_by(kind: str) -> Action:
         name, document = request.path[0], request.path[2] if len(request.path) > 2 else new_id()
         source = None if kind == "delete" else request.value
         is_create = kind == "create" or request.parameters.get("op_type") == "create"
-        return await coordinator.act(name, "create" if is_create else kind, document, source, request.parameters)
+        return await coordinator.act(
+            name, "create" if is_create else kind, document, source, request.parameters
+        )
 
     return write
 
@@ -65,17 +69,23 @@ async def get(coordinator: Coordinator, request: ParsedRequest) -> Answer:
 
 async def write_several(coordinator: Coordinator, request: ParsedRequest) -> Answer:
     """Answers a bulk request."""
-    return await bulk(coordinator, request.path[0] if len(request.path) > 1 else "", request.body, request.parameters)
+    return await bulk(
+        coordinator, request.path[0] if len(request.path) > 1 else "", request.body, request.parameters
+    )
 
 
 async def get_several(coordinator: Coordinator, request: ParsedRequest) -> Answer:
     """Answers a get of several documents."""
-    return await multiple_get(coordinator, request.path[0] if len(request.path) > 1 else "", request.value, request.parameters)
+    return await multiple_get(
+        coordinator, request.path[0] if len(request.path) > 1 else "", request.value, request.parameters
+    )
 
 
 async def change_by_query(coordinator: Coordinator, request: ParsedRequest) -> Answer:
     """Answers a change of all documents."""
-    return await change_all(coordinator, request.path[0], "delete" if request.path[1] == "_delete_by_query" else "index")
+    return await change_all(
+        coordinator, request.path[0], "delete" if request.path[1] == "_delete_by_query" else "index"
+    )
 
 
 async def refresh(coordinator: Coordinator, request: ParsedRequest) -> Answer:
@@ -108,7 +118,11 @@ async def describe(coordinator: Coordinator, request: ParsedRequest) -> Answer:
 async def describe_settings(coordinator: Coordinator, request: ParsedRequest) -> Answer:
     """Answers with the settings of an index."""
     index = coordinator.index(request.path[0])
-    return no_index(request.path[0]) if index is None else (200, {index.name: {"settings": {"index": index.settings}}})
+    return (
+        no_index(request.path[0])
+        if index is None
+        else (200, {index.name: {"settings": {"index": index.settings}}})
+    )
 
 
 async def report_stats(coordinator: Coordinator, request: ParsedRequest) -> Answer:
@@ -116,18 +130,31 @@ async def report_stats(coordinator: Coordinator, request: ParsedRequest) -> Answ
     index = coordinator.index(request.path[0])
     if index is None:
         return no_index(request.path[0])
-    return 200, {"indices": {index.name: {"shards": {str(it.number): copies_of(coordinator, it) for it in index.shards}}}}
+    return 200, {
+        "indices": {
+            index.name: {"shards": {str(it.number): copies_of(coordinator, it) for it in index.shards}}
+        }
+    }
 
 
 def copies_of(coordinator: Coordinator, shard: ShardId) -> List[Dict[str, Any]]:
-    """What is reported of each active copy of a shard: its node, and its greatest sequence number, -1 if it has none."""
+    """What is reported of each active copy of a shard: its node, and its greatest sequence number, -1 if it
+    has none."""
     cluster, routing = coordinator.node.cluster, coordinator.node.state.routings[shard]
     rows = []
     for number in sorted(routing.active):
         copy = cluster.nodes[number].copies.get(shard)
         if copy is not None and cluster.nodes[number].is_reachable:
-            numbers = {"max_seq_no": copy.top, "local_checkpoint": copy.checkpoint, "global_checkpoint": copy.known}
-            place = {"state": "STARTED", "primary": number == routing.primary, "node": cluster.nodes[number].name}
+            numbers = {
+                "max_seq_no": copy.top,
+                "local_checkpoint": copy.checkpoint,
+                "global_checkpoint": copy.known,
+            }
+            place = {
+                "state": "STARTED",
+                "primary": number == routing.primary,
+                "node": cluster.nodes[number].name,
+            }
             rows.append({"seq_no": numbers, "routing": place})
     return rows
 
@@ -137,7 +164,11 @@ async def report_state(coordinator: Coordinator, request: ParsedRequest) -> Answ
     state = coordinator.node.state
     index = state.indexes[request.path[3]]
     terms = {str(it.number): state.routings[it].term for it in index.shards}
-    return 200, {"metadata": {"indices": {index.name: {"routing_num_shards": index.routing_shards, "primary_terms": terms}}}}
+    return 200, {
+        "metadata": {
+            "indices": {index.name: {"routing_num_shards": index.routing_shards, "primary_terms": terms}}
+        }
+    }
 
 
 async def report_shard(coordinator: Coordinator, request: ParsedRequest) -> Answer:
@@ -148,7 +179,9 @@ async def report_shard(coordinator: Coordinator, request: ParsedRequest) -> Answ
     routing = state.routings[shard]
     numbers = sorted(routing.active, key=lambda it: it != routing.primary)
     place = {"index": index.name, "shard": shard.number}
-    return 200, {"shards": [[{**place, "primary": it == routing.primary, "node": nodes[it].name} for it in numbers]]}
+    return 200, {
+        "shards": [[{**place, "primary": it == routing.primary, "node": nodes[it].name} for it in numbers]]
+    }
 
 
 async def list_shards(coordinator: Coordinator, request: ParsedRequest) -> Answer:
@@ -159,7 +192,9 @@ async def list_shards(coordinator: Coordinator, request: ParsedRequest) -> Answe
         routing = state.routings[shard]
         for it in sorted(routing.active):
             kind = "p" if it == routing.primary else "r"
-            rows.append({"shard": str(shard.number), "prirep": kind, "state": "STARTED", "node": nodes[it].name})
+            rows.append(
+                {"shard": str(shard.number), "prirep": kind, "state": "STARTED", "node": nodes[it].name}
+            )
     return 200, rows
 
 
@@ -169,9 +204,17 @@ async def reroute(coordinator: Coordinator, request: ParsedRequest) -> Answer:
     names = [it.name for it in node.cluster.nodes]
     for command in request.value["commands"]:
         cancel = command["cancel"]
-        shard, number = node.state.indexes[cancel["index"]].shards[cancel["shard"]], names.index(cancel["node"])
-        if not cancel["allow_primary"] or not await node.ask_manager(node.cluster.manager.give_up_primary, shard, number):
-            return error(400, "illegal_argument_exception", f"[cancel] {cancel['node']} has no primary that it can give up")
+        shard, number = node.state.indexes[cancel["index"]].shards[cancel["shard"]], names.index(
+            cancel["node"]
+        )
+        if not cancel["allow_primary"] or not await node.ask_manager(
+            node.cluster.manager.give_up_primary, shard, number
+        ):
+            return error(
+                400,
+                "illegal_argument_exception",
+                f"[cancel] {cancel['node']} has no primary that it can give up",
+            )
     return 200, {"acknowledged": True}
 
 
@@ -182,13 +225,21 @@ async def report_health(coordinator: Coordinator, request: ParsedRequest) -> Ans
     active = sum(len(it.active) for it in state.routings.values())
     has_primaries = all(it.primary is not None for it in state.routings.values())
     status = "red" if not has_primaries else "green" if active == wanted else "yellow"
-    counts = {"number_of_nodes": len(manager.members), "active_shards": active, "unassigned_shards": wanted - active}
+    counts = {
+        "number_of_nodes": len(manager.members),
+        "active_shards": active,
+        "unassigned_shards": wanted - active,
+    }
     return 200, {"cluster_name": "stand-in", "status": status, "timed_out": False, **counts}
 
 
 async def greet(coordinator: Coordinator, request: ParsedRequest) -> Answer:
     """Answers with name and version, as OpenSearch does."""
-    names = {"name": coordinator.node.name, "cluster_name": "stand-in", "cluster_uuid": "c3RhbmQtaW4tb2YtYS1jbA"}
+    names = {
+        "name": coordinator.node.name,
+        "cluster_name": "stand-in",
+        "cluster_uuid": "c3RhbmQtaW4tb2YtYS1jbA",
+    }
     return 200, {**names, "version": VERSION, "tagline": "The OpenSearch Project: https://opensearch.org/"}
 
 

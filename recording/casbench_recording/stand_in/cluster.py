@@ -16,9 +16,9 @@ KILLED_NOTICED = 0.1
 
 
 class ClusterSetting(NamedTuple):
-    """What a cluster is like: how many nodes it has, how many shards and replicas an index has by default, how many seconds a slow
-    message between nodes takes on the average, after how many seconds a node is removed that doesn't answer, and how many of a hundred
-    requests are refused."""
+    """What a cluster is like: how many nodes it has, how many shards and replicas an index has by default,
+    how many seconds a slow message between nodes takes on the average, after how many seconds a node is
+    removed that doesn't answer, and how many of a hundred requests are refused."""
 
     nodes: int = 1
     shards: int = 1
@@ -49,7 +49,8 @@ class Cluster:
         self._spawn(self._lose(node, KILLED_NOTICED))
 
     async def restart(self, number: int) -> None:
-        """Starts a node again that was killed, with the copies on its disk; returns when it has joined the cluster."""
+        """Starts a node again that was killed, with the copies on its disk; returns when it has joined the
+        cluster."""
         old = self.nodes[number]
         await self.changes.until(lambda: old.is_removed)
         kept = {shard: it for shard, it in old.copies.items() if shard not in old.recovering}
@@ -86,7 +87,8 @@ class Cluster:
         self.changes.notify()
 
     async def _lose(self, node: Node, seconds: float) -> None:
-        """Has a node removed after these seconds, unless it is reached then. One that is cut off notices that it is alone."""
+        """Has a node removed after these seconds, unless it is reached then. One that is cut off notices that
+        it is alone."""
         await asyncio.sleep(seconds)
         if not node.is_reachable and not node.is_removed:
             node.is_alone = True

@@ -28,27 +28,72 @@ DISTURBANCES = {
 def parser_of_words() -> argparse.ArgumentParser:
     """What reads the words of the command."""
     faults = "; ".join(f"{name}: {meaning}" for name, meaning in FAULTS.items())
-    parser = argparse.ArgumentParser(prog=usage_name("stand_in"), description="Stands in for an OpenSearch cluster.", epilog=f"Faults: {faults}.")
+    parser = argparse.ArgumentParser(
+        prog=usage_name("stand_in"),
+        description="Stands in for an OpenSearch cluster.",
+        epilog=f"Faults: {faults}.",
+    )
     add = parser.add_argument
-    add("--port", type=int, default=9201, help="the port on 127.0.0.1; that of each further node is the next one; 0: free ones (9201)")
+    add(
+        "--port",
+        type=int,
+        default=9201,
+        help="the port on 127.0.0.1; that of each further node is the next one; 0: free ones (9201)",
+    )
     add("--nodes", type=int, default=1, help="how many nodes there are (1)")
     add("--shards", type=int, default=1, help="how many shards an index has, unless it says so itself (1)")
-    add("--replicas", type=int, default=0, help="how many replicas a shard has, unless the index says so itself (0)")
-    add("--lag", type=float, default=0.02, help="seconds that one in ten messages between nodes takes on the average (0.02)")
+    add(
+        "--replicas",
+        type=int,
+        default=0,
+        help="how many replicas a shard has, unless the index says so itself (0)",
+    )
+    add(
+        "--lag",
+        type=float,
+        default=0.02,
+        help="seconds that one in ten messages between nodes takes on the average (0.02)",
+    )
     for kind, meaning in DISTURBANCES.items():
         add(f"--{kind}-every", type=float, metavar="S", help=f"every S seconds a node is {meaning}")
     add("--lasting", type=float, metavar="S", help="how many seconds it is so (half of those between two)")
     add("--spare", type=int, default=0, metavar="N", help="the first N nodes are never disturbed (0)")
-    add("--detection", type=float, default=30.0, metavar="S", help="after how many seconds a node that doesn't answer is removed (30)")
-    overload = {"type": float, "nargs": "?", "const": 10.0, "default": 0.0, "metavar": "PERCENT"}
-    add("--overload", **overload, help="how many of a hundred requests are refused (0; without a number 10)")
+    add(
+        "--detection",
+        type=float,
+        default=30.0,
+        metavar="S",
+        help="after how many seconds a node that doesn't answer is removed (30)",
+    )
+    add(
+        "--overload",
+        type=float,
+        nargs="?",
+        const=10.0,
+        default=0.0,
+        metavar="PERCENT",
+        help="how many of a hundred requests are refused (0; without a number 10)",
+    )
     add("--fault", choices=FAULTS, default="none", help="what goes wrong (none)")
     add("--every", type=int, default=20, help="to each which one of the requests that it could (20)")
     add("--late", type=float, default=2.0, help="by how many seconds a late answer is late (2)")
     add("--delay", type=float, default=0.0, help="at most so many seconds before and after each step (0)")
-    add("--lagging-node", type=int, metavar="PORT", help="a second node, whose gets show what documents were before their last changes")
-    add("--cut-off-node", type=int, metavar="PORT", help="a second node, which is cut off behind the first changes, --every of them")
-    add("--product", help="what each answer says in its header X-Elastic-Product, which some clients ask for (no such header)")
+    add(
+        "--lagging-node",
+        type=int,
+        metavar="PORT",
+        help="a second node, whose gets show what documents were before their last changes",
+    )
+    add(
+        "--cut-off-node",
+        type=int,
+        metavar="PORT",
+        help="a second node, which is cut off behind the first changes, --every of them",
+    )
+    add(
+        "--product",
+        help="the value of the header X-Elastic-Product in each answer, which some clients ask for (none)",
+    )
     add("--certificate", help="serves https by this file, which has a certificate and its key")
     return parser
 
@@ -74,7 +119,10 @@ def servers_of(setting: argparse.Namespace, cluster: Cluster) -> List[Server]:
     how = ServerSetting(setting.delay, setting.late, setting.product, setting.certificate)
     ports = [setting.port + at if setting.port else 0 for at in range(setting.nodes)]
     servers = [Server(cluster, number, how, port) for number, port in enumerate(ports)]
-    for port, second in ((setting.lagging_node, LaggingCoordinator), (setting.cut_off_node, CutOffCoordinator)):
+    for port, second in (
+        (setting.lagging_node, LaggingCoordinator),
+        (setting.cut_off_node, CutOffCoordinator),
+    ):
         servers += [Server(cluster, 0, how, port, second(cluster.nodes[0]))] if port is not None else []
     return servers
 

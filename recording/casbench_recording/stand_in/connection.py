@@ -36,8 +36,8 @@ class ServerConnection(asyncio.BufferedProtocol):
         self.is_busy = False
 
     def connection_made(self, transport: asyncio.BaseTransport) -> None:
-        """Keeps what the answers are written to. A connection that was accepted just before the server was stopped is reset as others are:
-        the node that was killed answers nothing."""
+        """Keeps what the answers are written to. A connection that was accepted just before the server was
+        stopped is reset as others are: the node that was killed answers nothing."""
         self.transport = cast(asyncio.Transport, transport)
         self.server.connections.add(self)
         if not self.server.is_up:
@@ -48,7 +48,8 @@ class ServerConnection(asyncio.BufferedProtocol):
         self.server.connections.discard(self)
 
     def get_buffer(self, sizehint: int) -> memoryview:
-        """Where what comes is put. It is one place for all connections, since it is taken from there at once."""
+        """Where what comes is put. It is one place for all connections, since it is taken from there at
+        once."""
         return self.server.buffer
 
     def buffer_updated(self, nbytes: int) -> None:
@@ -121,7 +122,9 @@ class ServerConnection(asyncio.BufferedProtocol):
 
     def send(self, status: int, body: Any) -> None:
         """Sends an answer."""
-        self.send_bytes(status, "application/json; charset=UTF-8", json.dumps(body, separators=(",", ":")).encode())
+        self.send_bytes(
+            status, "application/json; charset=UTF-8", json.dumps(body, separators=(",", ":")).encode()
+        )
 
     def send_bytes(self, status: int, kind: str, body: bytes) -> None:
         """Sends the bytes of an answer in one piece; packed, if that is asked for."""

@@ -1,4 +1,5 @@
-"""What a node does for a client: it finds the shard of each document, asks copies for it, and has the primary write it."""
+"""What a node does for a client: it finds the shard of each document, asks copies for it, and has the primary
+write it."""
 
 import base64
 import itertools
@@ -24,7 +25,8 @@ IDS = itertools.count()
 
 
 class Unavailable(Exception):
-    """The primary of a shard, or each copy, couldn't be reached in time; whether anything was performed isn't known."""
+    """The primary of a shard, or each copy, couldn't be reached in time; whether anything was performed isn't
+    known."""
 
     def __init__(self, answer: Answer) -> None:
         super().__init__(answer)
@@ -57,7 +59,9 @@ class Coordinator:
         """Answers a get."""
         return (await self.get_all(name, [document], [parameters]))[0]
 
-    async def get_all(self, name: str, documents: Sequence[str], parameters: Sequence[RequestParameters]) -> List[Answer]:
+    async def get_all(
+        self, name: str, documents: Sequence[str], parameters: Sequence[RequestParameters]
+    ) -> List[Answer]:
         """Answers gets of documents of an index, of which those of one shard are answered by one copy."""
         index = self.index(name)
         if index is None:
@@ -67,15 +71,23 @@ class Coordinator:
         for shard in dict.fromkeys(shards):
             places = [at for at, it in enumerate(shards) if it == shard]
             try:
-                entries = await self._entries(shard, [documents[at] for at in places], parameters[places[0]].get("preference"))
+                entries = await self._entries(
+                    shard, [documents[at] for at in places], parameters[places[0]].get("preference")
+                )
             except Unavailable as fault:
                 answers.update((at, fault.answer) for at in places)
             else:
-                answers.update((at, shown(index.name, documents[at], it, parameters[at])) for at, it in zip(places, entries))
+                answers.update(
+                    (at, shown(index.name, documents[at], it, parameters[at]))
+                    for at, it in zip(places, entries)
+                )
         return [answers[at] for at, _ in enumerate(documents)]
 
-    async def _entries(self, shard: ShardId, documents: Sequence[str], preference: Optional[str]) -> List[Optional[Entry]]:
-        """The last changes of documents of a shard, as some copy has them: if one is gone the next is asked. Raises Unavailable."""
+    async def _entries(
+        self, shard: ShardId, documents: Sequence[str], preference: Optional[str]
+    ) -> List[Optional[Entry]]:
+        """The last changes of documents of a shard, as some copy has them: if one is gone the next is asked.
+        Raises Unavailable."""
         refused = self.node.cluster.overload.of_get()
         if refused is not None:
             raise Unavailable(refused)
@@ -84,10 +96,17 @@ class Coordinator:
                 return await self.node.ask(number, type(self.node).get, shard, documents)
             except (Disconnected, NoCopy):
                 continue
-        raise Unavailable(error(503, "no_shard_available_action_exception", f"No shard available for [get [{shard.index}]]"))
+        raise Unavailable(
+            error(
+                503,
+                "no_shard_available_action_exception",
+                f"No shard available for [get [{shard.index_name}]]",
+            )
+        )
 
     def _copies(self, routing: Optional[Routing], preference: Optional[str]) -> List[int]:
-        """The nodes whose copies are asked, in their order: all that are active, by turns, unless the request prefers some."""
+        """The nodes whose copies are asked, in their order: all that are active, by turns, unless the request
+        prefers some."""
         if routing is None:
             return []
         self._turn += 1
@@ -98,7 +117,11 @@ class Coordinator:
         if preference in ("_primary", "_replica"):
             return [it for it in turned if (it == routing.primary) == (preference == "_primary")]
         replicas = [it for it in turned if it != routing.primary]
-        firsts = {"_primary_first": [routing.primary], "_local": [self.node.number], "_replica_first": replicas}
+        firsts: Dict[str, Sequence[Optional[int]]] = {
+            "_primary_first": [routing.primary],
+            "_local": [self.node.number],
+            "_replica_first": replicas,
+        }
         if preference.startswith("_") and preference not in firsts:
             raise ValueError(f"no Preference for [{preference}]")
         first = [it for it in firsts.get(preference, numbers) if it in routing.active]
@@ -106,23 +129,36 @@ class Coordinator:
 
     # Writes
 
-    async def write(self, shard: ShardId, writes: Sequence[Write], parameters: RequestParameters) -> List[Answer]:
+    async def write(
+        self, shard: ShardId, writes: Sequence[Write], parameters: RequestParameters
+    ) -> List[Answer]:
         """Has the primary perform writes, in their order."""
         overload = self.node.cluster.overload
         refused = overload.of_waiting()
-        answers = await self._performed(shard, writes, parameters) if refused is None or overload.performs_it() else []
+        answers = (
+            await self._performed(shard, writes, parameters)
+            if refused is None or overload.performs_it()
+            else []
+        )
         return answers if refused is None else [refused for _ in writes]
 
-    async def _performed(self, shard: ShardId, writes: Sequence[Write], parameters: RequestParameters) -> List[Answer]:
+    async def _performed(
+        self, shard: ShardId, writes: Sequence[Write], parameters: RequestParameters
+    ) -> List[Answer]:
         """The answers to writes by the primary, or that it couldn't be reached."""
         try:
-            return await self._rerouted(shard, seconds_of(parameters.get("timeout", "1m")), type(self.node).perform, writes)
+            return await self._rerouted(
+                shard, seconds_of(parameters.get("timeout", "1m")), type(self.node).perform, writes
+            )
         except Unavailable as fault:
             return [fault.answer for _ in writes]
 
-    async def _rerouted(self, shard: ShardId, seconds: float, act: Callable[..., Awaitable[Returned]], *arguments: Any) -> Returned:
-        """Has the node with a shard's primary do something: again with each new cluster state if the connection to it was lost, or if it
-        is no primary, and a last time when these seconds are over. Raises Unavailable."""
+    async def _rerouted(
+        self, shard: ShardId, seconds: float, act: Callable[..., Awaitable[Returned]], *arguments: Any
+    ) -> Returned:
+        """Has the node with a shard's primary do something: again with each new cluster state if the
+        connection to it was lost, or if it is no primary, and a last time when these seconds are over. Raises
+        Unavailable."""
         node, end = self.node, time.monotonic() + seconds
         while True:
             state, is_last = node.state, time.monotonic() >= end
@@ -135,27 +171,38 @@ class Coordinator:
                 if is_last:
                     raise Unavailable(self._unavailable(shard, fault, seconds)) from fault
             left = end - time.monotonic()
-            await node.cluster.changes.until(lambda: node.state.version > state.version and not node.is_alone, left)
+            await node.cluster.changes.until(
+                lambda: node.state.version > state.version and not node.is_alone, left
+            )
             await node.awake()
 
     def _unavailable(self, shard: ShardId, fault: Exception, seconds: float) -> Answer:
         """The answer if the primary couldn't be reached in time."""
         if self.node.is_alone:
-            return error(503, "cluster_block_exception", "blocked by: [SERVICE_UNAVAILABLE/2/no cluster-manager];")
+            return error(
+                503, "cluster_block_exception", "blocked by: [SERVICE_UNAVAILABLE/2/no cluster-manager];"
+            )
         if isinstance(fault, Disconnected):
             return error(500, "node_disconnected_exception", f"{fault}: disconnected")
-        return error(503, "unavailable_shards_exception", f"[{shard.index}][{shard.number}] {fault} Timeout: [{seconds:g}s]")
+        return error(
+            503,
+            "unavailable_shards_exception",
+            f"[{shard.index_name}][{shard.number}] {fault} Timeout: [{seconds:g}s]",
+        )
 
     async def update(self, shard: ShardId, write: Write) -> Answer:
-        """Answers an update: the primary's node reads the document and writes it, all of which is tried again as a write is."""
+        """Answers an update: the primary's node reads the document and writes it, all of which is tried again
+        as a write is."""
         try:
-            return await self._rerouted(shard, seconds_of(write.parameters.get("timeout", "1m")), type(self.node).update, write)
+            return await self._rerouted(
+                shard, seconds_of(write.parameters.get("timeout", "1m")), type(self.node).update, write
+            )
         except Unavailable as fault:
             return fault.answer
 
     async def write_update(self, shard: ShardId, write: Write, last: Optional[Entry]) -> Answer:
-        """Writes what an update makes of a document, under the pair that was read unless it names one. A conflict is tried again as often
-        as it asks for that."""
+        """Writes what an update makes of a document, under the pair that was read unless it names one. A
+        conflict is tried again as often as it asks for that."""
         change = prepared(write.source or {}, last)
         if change.is_missing:
             return no_document(write.document)
@@ -167,13 +214,19 @@ class Coordinator:
         parameters = dict(write.parameters)
         if last is not None and last.source is not None and "if_seq_no" not in parameters:
             parameters.update(if_seq_no=last.number, if_primary_term=last.term)
-        (answer,) = await self._performed(shard, [Write(change.kind, write.document, change.source, parameters)], parameters)
+        (answer,) = await self._performed(
+            shard, [Write(change.kind, write.document, change.source, parameters)], parameters
+        )
         tries = int(write.parameters.get("retry_on_conflict", 0))
         if answer[0] == 409 and tries:
-            return await self.update(shard, write._replace(parameters={**write.parameters, "retry_on_conflict": tries - 1}))
+            return await self.update(
+                shard, write._replace(parameters={**write.parameters, "retry_on_conflict": tries - 1})
+            )
         return answer
 
-    async def act(self, name: str, kind: str, document: str, source: Any, parameters: RequestParameters) -> Answer:
+    async def act(
+        self, name: str, kind: str, document: str, source: Any, parameters: RequestParameters
+    ) -> Answer:
         """Answers a write of one document."""
         index = await self.index_to_write(name) if kind in ("index", "create") else self.index(name)
         if index is None:

@@ -1,4 +1,5 @@
-"""Disturbances of the cluster: again and again a node is killed, stopped or cut off for a while, one at a time."""
+"""Disturbances of the cluster: again and again a node is killed, stopped or cut off for a while, one at a
+time."""
 
 import asyncio
 import random
@@ -14,8 +15,9 @@ ELSEWHERE = 5
 
 
 class Plan(NamedTuple):
-    """When the cluster is disturbed: by the kinds of disturbances after how many seconds the next one begins, how many seconds each
-    lasts, or half of that if it isn't said, and how many of the first nodes are never disturbed."""
+    """When the cluster is disturbed: by the kinds of disturbances after how many seconds the next one begins,
+    how many seconds each lasts, or half of that if it isn't said, and how many of the first nodes are never
+    disturbed."""
 
     every: Dict[str, float]
     lasting: Optional[float]
@@ -32,7 +34,11 @@ class NodeDisturber:
         self._draw = draw
         self._count = 0
         self._lock = asyncio.Lock()
-        self._kinds: Dict[str, Callable[[int, float], Awaitable[None]]] = {"kill": self.kill, "pause": self.pause, "cut": self.cut}
+        self._kinds: Dict[str, Callable[[int, float], Awaitable[None]]] = {
+            "kill": self.kill,
+            "pause": self.pause,
+            "cut": self.cut,
+        }
 
     async def run(self) -> None:
         """Disturbs the cluster as it is planned, without end."""
@@ -45,7 +51,9 @@ class NodeDisturber:
             async with self._lock:
                 number = self._chosen()
                 tell(f"{self._cluster.nodes[number].name}: {kind}\n")
-                await self._kinds[kind](number, seconds / 2 if self._plan.lasting is None else self._plan.lasting)
+                await self._kinds[kind](
+                    number, seconds / 2 if self._plan.lasting is None else self._plan.lasting
+                )
                 tell(f"{self._cluster.nodes[number].name}: over\n")
 
     def _chosen(self) -> int:

@@ -8,18 +8,23 @@ from casbench_recording.shard_routing import shard_of
 class ShardId(NamedTuple):
     """A shard of an index. An index that is made again under its name has other shards."""
 
-    index: str
+    index_name: str
     generation: int
     number: int
 
 
 class Index:
-    """An index, and the settings that it was made with. Those that were not named are the defaults of the cluster."""
+    """An index, and the settings that it was made with. Those that were not named are the defaults of the
+    cluster."""
 
-    def __init__(self, name: str, request: Mapping[str, Any], generation: int = 0, shards: int = 1, replicas: int = 0) -> None:
+    def __init__(
+        self, name: str, request: Mapping[str, Any], generation: int = 0, shards: int = 1, replicas: int = 0
+    ) -> None:
         settings = request.get("settings", {})
         settings = {**settings, **settings.get("index", {})}
-        count, replicas = int(settings.get("number_of_shards", shards)), int(settings.get("number_of_replicas", replicas))
+        count, replicas = int(settings.get("number_of_shards", shards)), int(
+            settings.get("number_of_replicas", replicas)
+        )
         self.name = name
         self.settings = {key: str(it) for key, it in settings.items() if not isinstance(it, dict)}
         self.settings.update({"number_of_shards": str(count), "number_of_replicas": str(replicas)})

@@ -1,7 +1,8 @@
-"""The cluster manager: which nodes are members, where the copies of each shard are, and which of them is the primary.
+"""The cluster manager: which nodes are members, where the copies of each shard are, and which of them is the
+primary.
 
-It stands for a dedicated manager that nobody disturbs. Its state goes to every member, and a change counts as made once
-each member has it.
+It stands for a dedicated manager that nobody disturbs. Its state goes to every member, and a change counts as
+made once each member has it.
 """
 
 import asyncio
@@ -35,7 +36,8 @@ TRIES_AGAIN_AFTER = 0.1
 
 
 class Routing(NamedTuple):
-    """A shard's primary term, the number of the node that has the primary, if there is one, and those that have active copies."""
+    """A shard's primary term, the number of the node that has the primary, if there is one, and those that
+    have active copies."""
 
     term: int
     primary: Optional[int]
@@ -60,7 +62,8 @@ class Manager:
         self.cluster = cluster
         self.state = EMPTY
         self.members = set(range(nodes))
-        # the nodes that are to have a copy of a shard, and those whose copies are in sync, also if these are gone
+        # the nodes that are to have a copy of a shard, and those whose copies are in sync, also if these are
+        # gone
         self.homes: Dict[ShardId, List[int]] = {}
         self.in_sync: Dict[ShardId, FrozenSet[int]] = {}
         self._count = nodes
@@ -85,8 +88,12 @@ class Manager:
         return True
 
     def _placed(self, shard: ShardId, replicas: int) -> Routing:
-        """Where the copies of a new shard are: the primary on the last node, or those before it, the replicas on the next ones."""
-        homes = [(self._count - 1 - shard.number + it) % self._count for it in range(min(self._count, replicas + 1))]
+        """Where the copies of a new shard are: the primary on the last node, or those before it, the replicas
+        on the next ones."""
+        homes = [
+            (self._count - 1 - shard.number + it) % self._count
+            for it in range(min(self._count, replicas + 1))
+        ]
         self.homes[shard] = homes
         present = [it for it in homes if it in self.members]
         for it in homes:
@@ -107,8 +114,8 @@ class Manager:
     # Copies
 
     async def fail_copy(self, shard: ShardId, number: int, term: int, is_current: Callable[[], bool]) -> bool:
-        """Takes a copy out of those in sync for the primary of this term, if it is still a current one; False if the primary is none
-        any longer."""
+        """Takes a copy out of those in sync for the primary of this term, if it is still a current one; False
+        if the primary is none any longer."""
         async with self._lock:
             now = self.state.routings.get(shard)
             if now is None or now.primary is None or term < now.term:
@@ -119,20 +126,27 @@ class Manager:
         return True
 
     async def add_copy(self, shard: ShardId, number: int, term: int, is_current: Callable[[], bool]) -> bool:
-        """Adds a copy to those in sync for the primary of this term, which has brought it there, if it is still a current one;
-        whether it did."""
+        """Adds a copy to those in sync for the primary of this term, which has brought it there, if it is
+        still a current one; whether it did."""
         async with self._lock:
             now = self.state.routings.get(shard)
-            if now is None or now.primary is None or term != now.term or number not in self.members or not is_current():
+            if (
+                now is None
+                or now.primary is None
+                or term != now.term
+                or number not in self.members
+                or not is_current()
+            ):
                 return False
             await self._reroute({shard: now._replace(active=now.active | {number})})
         return True
 
     async def give_up_primary(self, shard: ShardId, number: int) -> bool:
-        """Has the node with a shard's primary give it up to another copy in sync, and makes its own copy again; False if it doesn't have
-        the primary, or if there is no other copy.
+        """Has the node with a shard's primary give it up to another copy in sync, and makes its own copy
+        again; False if it doesn't have the primary, or if there is no other copy.
 
-        No node takes it for the primary any longer when the other one becomes it, so that no get is answered by its copy then.
+        No node takes it for the primary any longer when the other one becomes it, so that no get is answered
+        by its copy then.
         """
         async with self._lock:
             now = self.state.routings.get(shard)
@@ -168,14 +182,17 @@ class Manager:
     # Nodes
 
     async def lose(self, node: "Node") -> None:
-        """Removes a node that is gone: if it had a primary another copy in sync becomes it, under the next term."""
+        """Removes a node that is gone: if it had a primary another copy in sync becomes it, under the next
+        term."""
         self.members.discard(node.number)
         node.is_removed = True
         node.disconnect()
         self.cluster.changes.notify()
         async with self._lock:
             rows = self.state.routings.items()
-            await self._reroute({shard: self._without(shard, node.number) for shard, now in rows if node.number in now.active})
+            await self._reroute(
+                {shard: self._without(shard, node.number) for shard, now in rows if node.number in now.active}
+            )
 
     def _without(self, shard: ShardId, number: int) -> Routing:
         """Where the copies of a shard are without those of a node."""
@@ -221,7 +238,8 @@ class Manager:
         await asyncio.gather(*[self._hand_over(self.state, it) for it in sorted(self.members)])
 
     async def _hand_over(self, state: ClusterState, number: int) -> None:
-        """Sends a state to a member; returns when it has that one or a later one, or is a member no longer."""
+        """Sends a state to a member; returns when it has that one or a later one, or is a member no
+        longer."""
         cluster = self.cluster
         await asyncio.sleep(cluster.network.delay())
 

@@ -1,4 +1,5 @@
-"""Messages between the nodes: each takes its time, waits while the way is cut or the receiver is paused, or is lost with its connection."""
+"""Messages between the nodes: each takes its time, waits while the way is cut or the receiver is paused, or
+is lost with its connection."""
 
 import asyncio
 import random
@@ -78,8 +79,11 @@ class Network:
         """How many seconds the next message takes."""
         return self._draw.expovariate(1 / self.lag) if self.lag and self._draw.random() < SLOW else 0.0
 
-    async def ask(self, source: "Node", target: "Node", act: Callable[..., Awaitable[Returned]], *arguments: Any) -> Returned:
-        """Has a node do something for another one; the same node does it at once. Raises Refused, or Disconnected."""
+    async def ask(
+        self, source: "Node", target: "Node", act: Callable[..., Awaitable[Returned]], *arguments: Any
+    ) -> Returned:
+        """Has a node do something for another one; the same node does it at once. Raises Refused, or
+        Disconnected."""
         if source is target:
             return await act(target, *arguments)
         if source.is_removed or target.is_removed or not target.is_alive:
@@ -96,7 +100,8 @@ class Network:
             exchange.end()
 
     async def _carry(self, exchange: NodeRequest, act: Callable[..., Awaitable[Any]], arguments: Any) -> None:
-        """Carries a request there, and its answer back. Also what nobody waits for any longer arrives, if it had left."""
+        """Carries a request there, and its answer back. Also what nobody waits for any longer arrives, if it
+        had left."""
         await self._arrive(exchange, exchange.target)
         if not exchange.target.is_alive or exchange.is_cut:
             return
@@ -114,8 +119,10 @@ class Network:
             exchange.answer.set_exception(fault)
 
     async def _arrive(self, exchange: NodeRequest, receiver: "Node") -> None:
-        """Takes the time of a message, and waits until it comes through and its receiver takes it. A connection that is cut may be lost
-        meanwhile."""
+        """Takes the time of a message, and waits until it comes through and its receiver takes it. A
+        connection that is cut may be lost meanwhile."""
         await asyncio.sleep(self.delay())
         if exchange.is_cut or receiver.is_paused:
-            await self._changes.until(lambda: not receiver.is_paused and (exchange.is_over or not exchange.is_cut))
+            await self._changes.until(
+                lambda: not receiver.is_paused and (exchange.is_over or not exchange.is_cut)
+            )

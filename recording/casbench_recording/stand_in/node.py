@@ -1,19 +1,7 @@
 """A node: its copies of shards, what it knows of the cluster state, and what other nodes ask of it."""
 
 import asyncio
-from typing import (
-    TYPE_CHECKING,
-    Any,
-    Awaitable,
-    Callable,
-    Coroutine,
-    Dict,
-    List,
-    Optional,
-    Sequence,
-    Set,
-    Tuple,
-)
+from typing import TYPE_CHECKING, Any, Awaitable, Callable, Dict, List, Optional, Sequence, Set, Tuple
 
 from .answers import Answer
 from .coordinator import Coordinator
@@ -30,7 +18,9 @@ if TYPE_CHECKING:
 class Node:
     """A node, from its start until it is killed."""
 
-    def __init__(self, cluster: "Cluster", number: int, copies: Optional[Dict[ShardId, ShardCopy]] = None) -> None:
+    def __init__(
+        self, cluster: "Cluster", number: int, copies: Optional[Dict[ShardId, ShardCopy]] = None
+    ) -> None:
         self.cluster = cluster
         self.number = number
         self.name = f"node-{number + 1}"
@@ -39,8 +29,8 @@ class Node:
         self.recovering: Set[ShardId] = set()
         self.primaries: Dict[ShardId, Primary] = {}
         self.state: ClusterState = EMPTY
-        # whether it runs at all; whether it is stopped; whether no message goes to or from other nodes; whether the manager has removed
-        # it; and whether it has noticed that it has no manager
+        # whether it runs at all; whether it is stopped; whether no message goes to or from other nodes;
+        # whether the manager has removed it; and whether it has noticed that it has no manager
         self.is_alive = True
         self.is_paused = self.is_cut = self.is_removed = self.is_alone = False
         self.exchanges: Dict[NodeRequest, None] = {}
@@ -54,14 +44,16 @@ class Node:
 
     # Its work
 
-    def run(self, work: Coroutine[Any, Any, Returned]) -> "asyncio.Task[Returned]":
+    def run(self, work: Awaitable[Returned]) -> "asyncio.Task[Returned]":
         """Does work, which ends if the node is killed."""
         task = asyncio.ensure_future(work)
         self._tasks.add(task)
         task.add_done_callback(self._tasks.discard)
         return task
 
-    def ask(self, number: int, act: Callable[..., Awaitable[Returned]], *arguments: Any) -> Awaitable[Returned]:
+    def ask(
+        self, number: int, act: Callable[..., Awaitable[Returned]], *arguments: Any
+    ) -> Awaitable[Returned]:
         """Has a node do something. Raises Refused or Disconnected."""
         return self.cluster.network.ask(self, self.cluster.nodes[number], act, *arguments)
 
@@ -144,7 +136,8 @@ class Node:
         return await self.primary_of(shard, term).perform(writes)
 
     async def update(self, shard: ShardId, term: int, write: Write) -> Answer:
-        """Reads a document on the primary at hand, and writes it as the update has it, if it wasn't changed in between."""
+        """Reads a document on the primary at hand, and writes it as the update has it, if it wasn't changed
+        in between."""
         copy = self.primary_of(shard, term).copy
         return await self.coordinator.write_update(shard, write, copy.last(write.document))
 

@@ -5,7 +5,10 @@ from typing import Optional
 
 from .answers import Answer, error, rejected
 
-BYTES = "[coordinating_and_primary_bytes=53687091, replica_bytes=0, all_bytes=53687091, max_coordinating_and_primary_bytes=53687091]"
+BYTES = (
+    "[coordinating_and_primary_bytes=53687091, replica_bytes=0, all_bytes=53687091, "
+    "max_coordinating_and_primary_bytes=53687091]"
+)
 """How full a node says that it is."""
 
 STAGES = 4
@@ -33,7 +36,11 @@ class Overload:
 
     def of_get(self) -> Optional[Answer]:
         """What a get is refused with."""
-        return rejected("org.opensearch.transport.TransportService on OpenSearchThreadPoolExecutor[get]") if self._strikes() else None
+        return (
+            rejected("org.opensearch.transport.TransportService on OpenSearchThreadPoolExecutor[get]")
+            if self._strikes()
+            else None
+        )
 
     def performs_it(self) -> bool:
         """Whether a write that a node doesn't wait for is performed."""

@@ -40,4 +40,6 @@ def read_request(request: Request, content: bytes) -> ParsedRequest:
     path, _, query = request.target.decode("utf-8", "replace").partition("?")
     parameters = dict(urllib.parse.parse_qsl(query, keep_blank_values=True)) if query else {}
     body = (decoded(content, request.fields.encoding, MOST_BODY) or b"").decode("utf-8", "replace")
-    return ParsedRequest(request.method, [urllib.parse.unquote(it) for it in path.strip("/").split("/")], parameters, body)
+    return ParsedRequest(
+        request.method, [urllib.parse.unquote(it) for it in path.strip("/").split("/")], parameters, body
+    )

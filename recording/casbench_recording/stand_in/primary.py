@@ -1,4 +1,5 @@
-"""A primary at work: it performs writes on its own copy, sends them to the copies in sync, and answers when each has them."""
+"""A primary at work: it performs writes on its own copy, sends them to the copies in sync, and answers when
+each has them."""
 
 import asyncio
 import time
@@ -26,11 +27,13 @@ if TYPE_CHECKING:
     from .node import Node
 
 GC_DELETES = 60.0
-"""After how many seconds a deleted document is forgotten, so that `_version` starts at 1 again (`index.gc_deletes`)."""
+"""After how many seconds a deleted document is forgotten, so that `_version` starts at 1 again
+(`index.gc_deletes`)."""
 
 
 class Write(NamedTuple):
-    """A write that is asked for: an index, a create, a delete, or an update, whose source is the body of the request."""
+    """A write that is asked for: an index, a create, a delete, or an update, whose source is the body of the
+    request."""
 
     kind: str
     document: str
@@ -39,8 +42,8 @@ class Write(NamedTuple):
 
 
 class Replication(NamedTuple):
-    """What a primary sends to a copy: operations, and up to which number each copy in sync has all. With the operations that a new
-    primary begins with comes the number above which there are none."""
+    """What a primary sends to a copy: operations, and up to which number each copy in sync has all. With the
+    operations that a new primary begins with comes the number above which there are none."""
 
     term: int
     known: int
@@ -53,8 +56,8 @@ NO_OPERATION = Entry(-1, 0)
 
 
 class WriteResult(NamedTuple):
-    """What came of a write on the primary: the answer, if it isn't that of a write which was performed; the operation, which is
-    replicated before it is answered; and whether the document was there."""
+    """What came of a write on the primary: the answer, if it isn't that of a write which was performed; the
+    operation, which is replicated before it is answered; and whether the document was there."""
 
     answer: Optional[Answer] = None
     entry: Entry = NO_OPERATION
@@ -62,7 +65,8 @@ class WriteResult(NamedTuple):
 
 
 class Target:
-    """Another copy that writes are sent to, as it was made once: made again on the same node it is another one."""
+    """Another copy that writes are sent to, as it was made once: made again on the same node it is another
+    one."""
 
     def __init__(self, number: int, held: int = -1, is_in_sync: bool = False) -> None:
         # the number of its node, that up to which it has all, and whether it is in sync already
@@ -95,7 +99,8 @@ class Primary:
         return max(self.copy.known, min([self.copy.checkpoint, *held]))
 
     async def resync(self) -> None:
-        """Has the other copies roll back what is above the global checkpoint, and sends them what this one has. Then it takes writes."""
+        """Has the other copies roll back what is above the global checkpoint, and sends them what this one
+        has. Then it takes writes."""
         known, entries = self.copy.known, self.copy.above(self.copy.known)
         message = Replication(self.term, known, entries, self.copy.top)
         await self._send_all(message)
@@ -130,7 +135,7 @@ class Primary:
 
     def _shards(self, copies: int) -> Dict[str, int]:
         """How many copies there are, how many hold what was written, and how many failed meanwhile."""
-        index = self.node.state.indexes.get(self.shard.index)
+        index = self.node.state.indexes.get(self.shard.index_name)
         total = index.replicas + 1 if index is not None else copies
         holding = sum(it.is_in_sync for it in self.targets.values()) + 1
         return {"total": total, "successful": holding, "failed": max(0, copies - len(self.targets) - 1)}
@@ -144,7 +149,9 @@ class Primary:
                 return WriteResult(answer)
         is_there = last is not None and last.source is not None
         faults = self.node.cluster.faults
-        if not is_met(write, last) and not (pair_of(write.parameters) is not None and faults.strikes("lost-update")):
+        if not is_met(write, last) and not (
+            pair_of(write.parameters) is not None and faults.strikes("lost-update")
+        ):
             return WriteResult(conflict(self.shard, write.document, last, write.parameters))
         entry = self._entry(write, last)
         self.copy.put(entry)
@@ -167,7 +174,14 @@ class Primary:
         is_forgotten = last is not None and last.source is None and now - last.time > GC_DELETES
         changes = 1 if last is None or is_forgotten else last.changes + 1
         source = None if write.kind == "delete" else write.source
-        return Entry(self._number(), self.term, write.document, int(write.parameters.get("version", changes)), source, now)
+        return Entry(
+            self._number(),
+            self.term,
+            write.document,
+            int(write.parameters.get("version", changes)),
+            source,
+            now,
+        )
 
     def _number(self) -> int:
         """The number of the next operation."""
@@ -179,7 +193,8 @@ class Primary:
     # Copies
 
     async def _send_all(self, message: Replication) -> None:
-        """Sends a message to the other copies; returns when each has what is sent, or counts no longer as one in sync."""
+        """Sends a message to the other copies; returns when each has what is sent, or counts no longer as one
+        in sync."""
         await asyncio.gather(*[self._send(it, message) for it in self.targets.values()])
 
     async def _send(self, target: Target, message: Replication) -> None:
@@ -199,7 +214,8 @@ class Primary:
         return self.targets.get(target.number) is target
 
     async def _fail(self, target: Target) -> None:
-        """Has the manager take a copy out of those in sync. Before that nothing is acknowledged without it."""
+        """Has the manager take a copy out of those in sync. Before that nothing is acknowledged without
+        it."""
         if await self._asks_manager(self.node.cluster.manager.fail_copy, target):
             self._forget(target)
         else:
@@ -207,7 +223,9 @@ class Primary:
 
     def _asks_manager(self, act: Callable[..., Awaitable[bool]], target: Target) -> Awaitable[bool]:
         """Has the manager do something with a copy, unless that is none of this primary any longer."""
-        return self.node.ask_manager(act, self.shard, target.number, self.term, lambda: self._is_current(target))
+        return self.node.ask_manager(
+            act, self.shard, target.number, self.term, lambda: self._is_current(target)
+        )
 
     def _forget(self, target: Target) -> None:
         """Sends nothing more to a copy."""

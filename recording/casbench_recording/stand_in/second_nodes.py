@@ -1,4 +1,5 @@
-"""Second nodes beside a cluster of one, whose gets show what documents were. A write is that of the first node."""
+"""Second nodes beside a cluster of one, whose gets show what documents were. A write is that of the first
+node."""
 
 from typing import List, Optional, Sequence
 
@@ -12,21 +13,34 @@ from .shard_copy import Entry
 class LaggingCoordinator(Coordinator):
     """A node that lags: its gets show what a document was before its last change."""
 
-    async def _entries(self, shard: ShardId, documents: Sequence[str], preference: Optional[str]) -> List[Optional[Entry]]:
+    async def _entries(
+        self, shard: ShardId, documents: Sequence[str], preference: Optional[str]
+    ) -> List[Optional[Entry]]:
         return list(map(self.node.copies[shard].before, documents))
 
 
 class CutOffCoordinator(Coordinator):
-    """A node that is cut off behind the first changes of a shard: its gets show what was there then, and it takes no more writes."""
+    """A node that is cut off behind the first changes of a shard: its gets show what was there then, and it
+    takes no more writes."""
 
-    async def _entries(self, shard: ShardId, documents: Sequence[str], preference: Optional[str]) -> List[Optional[Entry]]:
+    async def _entries(
+        self, shard: ShardId, documents: Sequence[str], preference: Optional[str]
+    ) -> List[Optional[Entry]]:
         beginning = self.node.copies[shard].beginning
-        return await super()._entries(shard, documents, preference) if beginning is None else list(map(beginning.get, documents))
+        return (
+            await super()._entries(shard, documents, preference)
+            if beginning is None
+            else list(map(beginning.get, documents))
+        )
 
-    async def write(self, shard: ShardId, writes: Sequence[Write], parameters: RequestParameters) -> List[Answer]:
+    async def write(
+        self, shard: ShardId, writes: Sequence[Write], parameters: RequestParameters
+    ) -> List[Answer]:
         if self.node.copies[shard].beginning is None:
             return await super().write(shard, writes, parameters)
-        refused = error(503, "cluster_block_exception", "blocked by: [SERVICE_UNAVAILABLE/2/no cluster-manager];")
+        refused = error(
+            503, "cluster_block_exception", "blocked by: [SERVICE_UNAVAILABLE/2/no cluster-manager];"
+        )
         return [refused for _ in writes]
 
     async def update(self, shard: ShardId, write: Write) -> Answer:

@@ -23,8 +23,9 @@ BACKLOG = 256
 
 
 class ServerSetting(NamedTuple):
-    """How requests are answered: how many seconds at most pass before and after each step, how late an answer is that is late, the
-    product that answers name, and the file of the certificate for https, if there is one."""
+    """How requests are answered: how many seconds at most pass before and after each step, how late an answer
+    is that is late, the product that answers name, and the file of the certificate for https, if there is
+    one."""
 
     delay: float = 0.0
     late: float = 2.0
@@ -35,14 +36,22 @@ class ServerSetting(NamedTuple):
 class Server:
     """Serves a node. With a coordinator of its own it serves a second node beside it."""
 
-    def __init__(self, cluster: Cluster, number: int, setting: ServerSetting, port: int, second: Optional[Coordinator] = None) -> None:
+    def __init__(
+        self,
+        cluster: Cluster,
+        number: int,
+        setting: ServerSetting,
+        port: int,
+        second: Optional[Coordinator] = None,
+    ) -> None:
         self.cluster = cluster
         self.number = number
         self.setting = setting
         self.faults: Faults = cluster.faults
         self.wanted = wanted_header(os.environ)
         self.connections: Set[ServerConnection] = set()
-        # (a view, since asyncio writes encrypted messages into slices of it, and those of the bytes themselves are copies)
+        # (a view, since asyncio writes encrypted messages into slices of it, and those of the bytes
+        # themselves are copies)
         self.buffer = memoryview(bytearray(65_536))
         self.fields = [f"X-Elastic-Product: {setting.product}"] if setting.product else []
         # whether connections are taken
@@ -75,11 +84,13 @@ class Server:
             self._place = bound(self._port)
             self._port = self._place.getsockname()[1]
         self.is_up = True
-        how = {"ssl": self._trust, "backlog": BACKLOG}
-        self._listener = await asyncio.get_running_loop().create_server(self.connection, sock=bound(self._port), **how)
+        self._listener = await asyncio.get_running_loop().create_server(
+            self.connection, sock=bound(self._port), ssl=self._trust, backlog=BACKLOG
+        )
 
     def connection(self) -> ServerConnection:
-        """What answers a connection that was accepted. If the server was stopped meanwhile that is closed as the fault is raised."""
+        """What answers a connection that was accepted. If the server was stopped meanwhile that is closed as
+        the fault is raised."""
         if not self.is_up:
             raise ConnectionAbortedError
         return ServerConnection(self)

@@ -16,12 +16,13 @@ KINDS = ("index", "create", "update", "delete")
 class BulkWrite(NamedTuple):
     """An item of a bulk request: the index that it names, and the write."""
 
-    index: str
+    index_name: str
     write: Write
 
 
 def items_of(name: str, text: str) -> List[BulkWrite]:
-    """The items of a bulk request to an index, if its path names one. Raises ValueError if it can't be read."""
+    """The items of a bulk request to an index, if its path names one. Raises ValueError if it can't be
+    read."""
     lines = iter([json.loads(it) for it in text.split("\n") if it.strip()])
     items = []
     for action in lines:
@@ -31,7 +32,12 @@ def items_of(name: str, text: str) -> List[BulkWrite]:
         source = next(lines, None) if kind != "delete" else None
         if not isinstance(parameters, dict) or kind != "delete" and not isinstance(source, dict):
             raise ValueError("a bulk request that can't be read")
-        items.append(BulkWrite(parameters.get("_index", name), Write(kind, parameters.get("_id") or new_id(), source, parameters)))
+        items.append(
+            BulkWrite(
+                parameters.get("_index", name),
+                Write(kind, parameters.get("_id") or new_id(), source, parameters),
+            )
+        )
     return items
 
 
@@ -45,40 +51,55 @@ async def bulk(coordinator: Coordinator, name: str, text: str, parameters: Reque
     groups: Dict[ShardId, List[int]] = {}
     for at, item in enumerate(items):
         makes = item.write.kind in ("index", "create")
-        index = await coordinator.index_to_write(item.index) if makes else coordinator.index(item.index)
+        index = (
+            await coordinator.index_to_write(item.index_name) if makes else coordinator.index(item.index_name)
+        )
         if index is None:
-            answers[at] = no_index(item.index)
+            answers[at] = no_index(item.index_name)
         else:
             groups.setdefault(index.shard(item.write.document, item.write.parameters), []).append(at)
-    work = [coordinator.write(shard, [items[at].write for at in places], parameters) for shard, places in groups.items()]
+    work = [
+        coordinator.write(shard, [items[at].write for at in places], parameters)
+        for shard, places in groups.items()
+    ]
     for places, given in zip(groups.values(), await together(work)):
         answers.update(zip(places, given))
     rows = [item_answer(item, *answers[at]) for at, item in enumerate(items)]
-    return 200, {"took": 1, "errors": any("error" in it for row in rows for it in row.values()), "items": rows}
+    return 200, {
+        "took": 1,
+        "errors": any("error" in it for row in rows for it in row.values()),
+        "items": rows,
+    }
 
 
 async def together(work: List[Any]) -> List[Any]:
     """What works return that are done beside each other."""
-    return [await work[0]] if len(work) == 1 else await asyncio.gather(*work)
+    return [await work[0]] if len(work) == 1 else [*await asyncio.gather(*work)]
 
 
 def item_answer(item: BulkWrite, status: int, body: Dict[str, Any]) -> Dict[str, Any]:
     """What the answer to a bulk request has of an item."""
     if "error" in body:
         cause = {key: it for key, it in body["error"].items() if key != "root_cause"}
-        body = {"_index": item.index, "error": cause}
+        body = {"_index": item.index_name, "error": cause}
     return {item.write.kind: {**body, "_id": item.write.document, "status": status}}
 
 
-async def multiple_get(coordinator: Coordinator, name: str, request: Dict[str, Any], parameters: RequestParameters) -> Answer:
+async def multiple_get(
+    coordinator: Coordinator, name: str, request: Dict[str, Any], parameters: RequestParameters
+) -> Answer:
     """Answers a get of several documents, of one index after the other."""
     places = request.get("docs") or [{"_id": it} for it in request["ids"]]
     names = [it.get("_index", name) for it in places]
     found: Dict[int, Any] = {}
     for index in dict.fromkeys(names):
         ats = [at for at, it in enumerate(names) if it == index]
-        answers = await coordinator.get_all(index, [places[at]["_id"] for at in ats], [{**parameters, **places[at]} for at in ats])
-        found.update((at, place_answer(index, places[at]["_id"], body)) for at, (_, body) in zip(ats, answers))
+        answers = await coordinator.get_all(
+            index, [places[at]["_id"] for at in ats], [{**parameters, **places[at]} for at in ats]
+        )
+        found.update(
+            (at, place_answer(index, places[at]["_id"], body)) for at, (_, body) in zip(ats, answers)
+        )
     return 200, {"docs": [found[at] for at, _ in enumerate(places)]}
 
 
@@ -95,6 +116,8 @@ async def change_all(coordinator: Coordinator, name: str, kind: str) -> Answer:
         routing = node.state.routings[shard]
         if routing.primary is not None:
             copy = node.cluster.nodes[routing.primary].copies[shard]
-            for last in [it for it in map(copy.last, list(copy.versions)) if it is not None and it.source is not None]:
+            for last in [
+                it for it in map(copy.last, list(copy.versions)) if it is not None and it.source is not None
+            ]:
                 await coordinator.write(shard, [Write(kind, str(last.document), last.source, {})], {})
     return 200, {"took": 1, "failures": []}

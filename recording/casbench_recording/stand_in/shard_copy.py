@@ -7,7 +7,8 @@ KEPT = 1000
 
 
 class Entry(NamedTuple):
-    """An operation by its number, and what it makes of its document. One that only fills a gap in the numbers (a no-op) has no document."""
+    """An operation by its number, and what it makes of its document. One that only fills a gap in the numbers
+    (a no-op) has no document."""
 
     number: int
     term: int
@@ -43,7 +44,8 @@ class ShardCopy:
         self.entries: Dict[int, Entry] = {}
         # of each document, in the order of their numbers: those that may be rolled back, and two before these
         self.versions: Dict[str, List[Entry]] = {}
-        # the greatest number; the one up to which it has all; and the one up to which each copy in sync has all, as far as is known
+        # the greatest number; the one up to which it has all; and the one up to which each copy in sync has
+        # all, as far as is known
         self.top = self.checkpoint = self.known = -1
         # what the documents were behind the first operations, if that was noted
         self.beginning: Optional[Dict[str, Entry]] = None

@@ -1,12 +1,13 @@
 """Checks a recording while it grows, and runs a command at the first fault that is proved.
 
-    python3 -m casbench_recording.watch carts.ndjson --profile opensearch --every 5 -- docker pause node-1 node-2 node-3
+    python3 -m casbench_recording.watch carts.ndjson --profile opensearch -- docker pause node-1 node-2 node-3
 
-It takes the options of a reading, as a check does, and rules documents out. OUT is a history, or a directory of histories. `refuted` is
-final: what refutes the lines so far refutes every history that begins with them. `yes` and `no` are not: docs/RECORDING.md says why. At
-the first `refuted` it prints what `explain` says, runs COMMAND, and exits with status 1. Ctrl-C ends it after a last check. The exit
-status is then that of the worst answer: 0 for `yes`, 1 for `no`, 2 if a text is no history or there is none. If a check gives no verdict,
-or lines that were checked are gone, it exits at once with status 4.
+It takes the options of a reading, as a check does, and rules documents out. OUT is a history, or a directory
+of histories. `refuted` is final: what refutes the lines so far refutes every history that begins with them.
+`yes` and `no` are not: docs/RECORDING.md says why. At the first `refuted` it prints what `explain` says, runs
+COMMAND, and exits with status 1. Ctrl-C ends it after a last check. The exit status is then that of the worst
+answer: 0 for `yes`, 1 for `no`, 2 if a text is no history or there is none. If a check gives no verdict, or
+lines that were checked are gone, it exits at once with status 4.
 """
 
 import argparse
@@ -33,16 +34,19 @@ from .snapshots import CheckError, ProgramAnswer, Snapshot, try_check
 from .terms import TermReader, Terms
 
 REST = 9.0
-"""How many times as long as the last check took of a processor the next one waits, so that they take a tenth of one at most."""
+"""How many times as long as the last check took of a processor the next one waits, so that they take a tenth
+of one at most."""
 
 PART = re.compile(r"part-[0-9]+\.ndjson")
 """The name of a finished part of a recording without end."""
 
 
 class WatchStop:
-    """Ctrl-C, a request to end, or the end of standard input: the next round is the last one. A second signal ends at once.
+    """Ctrl-C, a request to end, or the end of standard input: the next round is the last one. A second signal
+    ends at once.
 
-    If standard input is heeded its end is the only request: SIGTERM ends the watch at once then, without an answer.
+    If standard input is heeded its end is the only request: SIGTERM ends the watch at once then, without an
+    answer.
     """
 
     def __init__(self, ends_with_input: bool) -> None:
@@ -71,8 +75,10 @@ class WatchStop:
 
 @dataclass
 class Watched:
-    """A history that is watched: what reads its terms, how many bytes of it were checked last, the answer, whether that was printed as
-    the one of a finished part, whether it was finished then, so that it may be deleted, and whether it is deleted."""
+    """A history that is watched: what reads its terms, how many bytes of it were checked last, the answer,
+    whether that was printed as the one of a finished part, whether it was finished then, so that it may be
+    deleted, and whether it is deleted.
+    """
 
     terms: TermReader
     length: int = 0
@@ -97,7 +103,8 @@ class Watch:
         self._rests_until = 0.0
 
     def run(self) -> int:
-        """Checks until the end is asked for, or a history is refuted; returns the exit status. Raises CheckError if it can't check."""
+        """Checks until the end is asked for, or a history is refuted; returns the exit status. Raises
+        CheckError if it can't check."""
         try_check([self._program, "check", *self._options])
         while True:
             is_last, began = self.stop.is_set, time.monotonic()
@@ -117,10 +124,13 @@ class Watch:
         out = self.setting.out
         if not os.path.isdir(out):
             return [out] if os.path.exists(out) else []
-        return sorted(os.path.join(out, it) for it in os.listdir(out) if it.endswith((".ndjson", f".ndjson{GROWING}")))
+        return sorted(
+            os.path.join(out, it) for it in os.listdir(out) if it.endswith((".ndjson", f".ndjson{GROWING}"))
+        )
 
     def refuse_losses(self) -> None:
-        """Raises CheckError if lines that were checked are gone. A finished part may be deleted, once it was checked as one."""
+        """Raises CheckError if lines that were checked are gone. A finished part may be deleted, once it was
+        checked as one."""
         checked = {name: it for name, it in self.histories.items() if it.length}
         lost = [name for name, it in checked.items() if not it.is_finished and not is_there(name)]
         if checked and not is_there(name_of(self.setting.out)):
@@ -129,7 +139,8 @@ class Watch:
             raise CheckError(f"{lost[0]} was removed while it was watched")
 
     def check(self, path: str, is_last: bool) -> Optional[Tuple[Snapshot, str]]:
-        """Checks a file if it has grown; returns the lines that were checked if they are refuted, and the line of that verdict."""
+        """Checks a file if it has grown; returns the lines that were checked if they are refuted, and the
+        line of that verdict."""
         watched = self.watched(name_of(path))
         # (a part that is finished meanwhile has another name, and has its turn in the next round)
         with contextlib.suppress(FileNotFoundError):
@@ -167,7 +178,12 @@ class Watch:
 
     def delete_if_done(self, path: str, watched: Watched) -> None:
         """Deletes a finished part that got `yes`, if that is asked for."""
-        if self.setting.delete_parts and is_finished(path) and watched.answer is not None and watched.answer.word == "yes":
+        if (
+            self.setting.delete_parts
+            and is_finished(path)
+            and watched.answer is not None
+            and watched.answer.word == "yes"
+        ):
             os.remove(path)
             watched.is_deleted = True
 
@@ -178,16 +194,25 @@ class Watch:
         if sys.stdout.isatty():
             name = "" if path == self.setting.out else f"{escaped(os.path.basename(path))}  "
             # (a recorder may have a line on its progress there, which it writes again)
-            print(f"\r\x1b[K{time.strftime('%H:%M:%S')}  {name}{answer.line}  ({answer.seconds:.2f} s)", flush=True)
+            print(
+                f"\r\x1b[K{time.strftime('%H:%M:%S')}  {name}{answer.line}  ({answer.seconds:.2f} s)",
+                flush=True,
+            )
 
     def tell_finished(self, path: str, watched: Watched) -> None:
         """Prints a line on a finished part, once, if there is no terminal."""
-        if is_finished(path) and watched.answer is not None and not watched.is_told and not sys.stdout.isatty():
+        if (
+            is_finished(path)
+            and watched.answer is not None
+            and not watched.is_told
+            and not sys.stdout.isatty()
+        ):
             watched.is_told = True
             print(f"{escaped(os.path.basename(path))}: {watched.answer.line}", flush=True)
 
     def tell_refuted(self, snapshot: Snapshot, line: str) -> int:
-        """Prints what `explain` says, or else the line of the verdict; runs the command, and returns the exit status.
+        """Prints what `explain` says, or else the line of the verdict; runs the command, and returns the exit
+        status.
 
         The verdict stands, whatever else fails.
         """
@@ -216,7 +241,9 @@ class Watch:
             tell_fault(f"there is nothing to check in {escaped(self.setting.out)}")
             return 2
         if os.path.isdir(self.setting.out):
-            counts = ", ".join(f"{sum(it.word == word for it in answers)} {word}" for word in ("yes", "no", "refused"))
+            counts = ", ".join(
+                f"{sum(it.word == word for it in answers)} {word}" for word in ("yes", "no", "refused")
+            )
             deleted = sum(it.is_deleted for it in self.histories.values())
             print(f"{counted(len(answers), 'part')}: {counts}" + (f"; {deleted} deleted" if deleted else ""))
         for answer in answers:
@@ -244,7 +271,8 @@ def name_of(path: str) -> str:
 
 
 def is_there(name: str) -> bool:
-    """Whether a history is there, growing or finished. (One that is finished between the two looks is found by the second.)"""
+    """Whether a history is there, growing or finished. (One that is finished between the two looks is found
+    by the second.)"""
     return os.path.exists(name + GROWING) or os.path.exists(name)
 
 
@@ -254,7 +282,8 @@ def is_finished(path: str) -> bool:
 
 
 def tell_unjudged(out: str) -> None:
-    """Prints how much isn't judged, by the list beside a proxy's recording, and why it ended early, if it did.
+    """Prints how much isn't judged, by the list beside a proxy's recording, and why it ended early, if it
+    did.
 
     The end of the list says how many calls were left out, so only that of a recording that is over does.
     """
@@ -264,7 +293,10 @@ def tell_unjudged(out: str) -> None:
         count += sum(it.get("documents", 0) for it in listed)
         if count:
             left_out = f", {counted(calls, 'call')}" if calls else ""
-            print(f"not judged: {counted(count, 'document')}{left_out}, listed in {escaped(lines.name)}", flush=True)
+            print(
+                f"not judged: {counted(count, 'document')}{left_out}, listed in {escaped(lines.name)}",
+                flush=True,
+            )
         for it in listed:
             if it.get("ended"):
                 print(f"the recording ended early: {escaped(it['why'])}", flush=True)
@@ -292,12 +324,17 @@ def parse_arguments(arguments: Optional[Sequence[str]]) -> argparse.Namespace:
         own, command = own[:at], own[at + 1 :]
     parser = argparse.ArgumentParser(
         prog=usage_name("watch"),
-        description="Checks a recording while it grows, and runs a command at the first fault that is proved.",
+        description="Checks a recording while it grows, and runs a command at the first proved fault.",
         usage="%(prog)s OUT [OPTIONS] [-- COMMAND ..]",
     )
     add = parser.add_argument
     add("out", metavar="OUT", help="the history, or the directory of histories")
-    add("--every", type=number_from(0.1, float), default=EVERY, help="seconds between the beginnings of two rounds of checks (5)")
+    add(
+        "--every",
+        type=number_from(0.1, float),
+        default=EVERY,
+        help="seconds between the beginnings of two rounds of checks (5)",
+    )
     add_reading_options(add)
     add("--program", help="the casbench that checks (./casbench, or that on the path)")
     add("--delete-parts", action="store_true", help="delete finished parts that get yes")

@@ -1,4 +1,5 @@
-"""A watch that runs beside a recorder, in its process group, and has it stop at the first fault that is proved."""
+"""A watch that runs beside a recorder, in its process group, and has it stop at the first fault that is
+proved."""
 
 import argparse
 import contextlib
@@ -27,7 +28,8 @@ ANSWERS = (0, 1, 2)
 """The exit statuses of a watch that was asked to end, and gave its last answer."""
 
 SHORTEST_PAUSE, LONGEST_PAUSE = 1.0, 60.0
-"""After how many seconds a watch that failed is started again: twice as many each time, unless it lasted longer than the most of them."""
+"""After how many seconds a watch that failed is started again: twice as many each time, unless it lasted
+longer than the most of them."""
 
 GRACE = 0.3
 """For how many seconds nothing is said of a watch that ended: whatever ended it may end the recorder too."""
@@ -37,13 +39,17 @@ PACKAGE = str(pathlib.Path(__file__).resolve().parents[2])
 
 
 class WatchProcess:
-    """A watch of a recording. It ends with the block, after a last check, or when the recorder ends, however that ends.
+    """A watch of a recording. It ends with the block, after a last check, or when the recorder ends, however
+    that ends.
 
-    If it ends before, since the recording is refuted, `refuted` is called, on a thread of its own. If it ends before in any other way, as
-    when it is killed or can't check, a line says so, and it is started again: the recording goes on.
+    If it ends before, since the recording is refuted, `refuted` is called, on a thread of its own. If it ends
+    before in any other way, as when it is killed or can't check, a line says so, and it is started again: the
+    recording goes on.
     """
 
-    def __init__(self, out: str, options: Sequence[str], refuted: Callable[[], None], tell: Callable[[str], object]) -> None:
+    def __init__(
+        self, out: str, options: Sequence[str], refuted: Callable[[], None], tell: Callable[[str], object]
+    ) -> None:
         self._start = [sys.executable, "-m", "casbench_recording.watch", out, "--until-closed"]
         self._options = options
         self._refuted = refuted
@@ -51,7 +57,8 @@ class WatchProcess:
         self._is_ending = threading.Event()
         # whether the watch at hand was ended to run with other options
         self._is_changing = False
-        # guards the process at hand: it is begun either before it is asked to end, or after that, for a last check
+        # guards the process at hand: it is begun either before it is asked to end, or after that, for a last
+        # check
         self._lock = threading.Lock()
         self._process: "Optional[subprocess.Popen[bytes]]" = None
         self._thread = threading.Thread(target=self._watch, daemon=True)
@@ -70,8 +77,10 @@ class WatchProcess:
                 self._process.terminate()
 
     def _watch(self) -> None:
-        """Runs the watch, and runs it again if it ends without an answer, or without having been asked to end."""
-        # (what is started here ignores Ctrl-C, which is for the recorder: it ends the watch when the last line is written)
+        """Runs the watch, and runs it again if it ends without an answer, or without having been asked to
+        end."""
+        # (what is started here ignores Ctrl-C, which is for the recorder: it ends the watch when the last
+        # line is written)
         signal.pthread_sigmask(signal.SIG_BLOCK, {signal.SIGINT})
         pause = SHORTEST_PAUSE
         while not self._is_ending.is_set():
@@ -86,8 +95,14 @@ class WatchProcess:
                 return
             pause = SHORTEST_PAUSE if time.monotonic() > began + LONGEST_PAUSE else pause
             if not self._is_ending.wait(GRACE):
-                how = f"was killed by signal {-self.status}" if self.status < 0 else f"ended with status {self.status}"
-                self._tell(f"the watch {how}: the recording goes on, and the watch is started again in {pause:.0f} s")
+                how = (
+                    f"was killed by signal {-self.status}"
+                    if self.status < 0
+                    else f"ended with status {self.status}"
+                )
+                self._tell(
+                    f"the watch {how}: the recording goes on, and the watch is started again in {pause:.0f} s"
+                )
                 self._is_ending.wait(pause)
                 pause = min(2 * pause, LONGEST_PAUSE)
         if self.status not in ANSWERS:
@@ -103,7 +118,9 @@ class WatchProcess:
             with self._lock:
                 self._is_changing = False
                 command = [*self._start, *self._options]
-                self._process = subprocess.Popen(command, stdin=subprocess.PIPE, env={**os.environ, "PYTHONPATH": path})
+                self._process = subprocess.Popen(
+                    command, stdin=subprocess.PIPE, env={**os.environ, "PYTHONPATH": path}
+                )
                 if self._is_ending.is_set():
                     self._close()
         except OSError as fault:
@@ -147,6 +164,15 @@ def watch_options(setting: argparse.Namespace) -> List[str]:
 
 def add_watch_options(add: Callable[..., object]) -> None:
     """Adds the options of a recorder that is watched."""
-    add("--watch", action="store_true", help="check what is recorded, and stop at the first fault that is proved")
-    add("--every", type=number_from(0.1, float), default=EVERY, help="with --watch: seconds between two rounds of checks (5)")
+    add(
+        "--watch",
+        action="store_true",
+        help="check what is recorded, and stop at the first fault that is proved",
+    )
+    add(
+        "--every",
+        type=number_from(0.1, float),
+        default=EVERY,
+        help="with --watch: seconds between two rounds of checks (5)",
+    )
     add("--program", help="with --watch: the casbench that checks (./casbench, or that on the path)")

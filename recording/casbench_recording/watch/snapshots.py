@@ -55,7 +55,8 @@ class ProgramAnswer:
 
 
 class Snapshot:
-    """The lines of a file that are whole at this moment. What is written behind them later isn't looked at."""
+    """The lines of a file that are whole at this moment. What is written behind them later isn't looked
+    at."""
 
     def __init__(self, path: str) -> None:
         self.path = path
@@ -78,12 +79,14 @@ class Snapshot:
             return ask(command, file, self.length)
 
     def check(self, command: Sequence[str]) -> ProgramAnswer:
-        """The verdict of a check that is run with these words. Raises CheckError if the program writes anything else."""
+        """The verdict of a check that is run with these words. Raises CheckError if the program writes
+        anything else."""
         return verdict(command, self.ask(command))
 
 
 def try_check(command: Sequence[str]) -> None:
-    """Has a text without a line checked. Raises CheckError if the program can't be run, or doesn't answer as a check does."""
+    """Has a text without a line checked. Raises CheckError if the program can't be run, or doesn't answer as
+    a check does."""
     answer = verdict(command, ask(command, io.BytesIO(), 0))
     if answer.word != "yes":
         raise CheckError(f"{command[0]} says of a text without a line: {answer.line[:LONGEST_SHOWN]!r}")
@@ -92,12 +95,14 @@ def try_check(command: Sequence[str]) -> None:
 def verdict(command: Sequence[str], answer: ProgramAnswer) -> ProgramAnswer:
     """The answer, which is refused with CheckError unless it is one verdict and has its status."""
     if not VERDICT.fullmatch(answer.text) or VERDICTS[answer.word] != answer.status:
-        raise CheckError(f"{command[0]} ended with status {answer.status} and gave no verdict: {answer.text[:LONGEST_SHOWN]!r}")
+        shown = repr(answer.text[:LONGEST_SHOWN])
+        raise CheckError(f"{command[0]} ended with status {answer.status} and gave no verdict: {shown}")
     return answer
 
 
 def ask(command: Sequence[str], file: BinaryIO, length: int) -> ProgramAnswer:
-    """What the program writes that is run with these words, and given so many bytes of a file on standard input.
+    """What the program writes that is run with these words, and given so many bytes of a file on standard
+    input.
 
     Raises CheckError if it can't be run, writes too much, or ends with a status that no verdict has.
     """
@@ -107,16 +112,20 @@ def ask(command: Sequence[str], file: BinaryIO, length: int) -> ProgramAnswer:
         if status not in VERDICTS.values() or len(told) > MOST_WRITTEN:
             fault.seek(0)
             why = fault.read(LONGEST_SHOWN).decode(errors="replace").strip()
-            raise CheckError(f"{command[0]} {'wrote too much and ' if len(told) > MOST_WRITTEN else ''}ended with status {status}: {why}")
+            wrote = "wrote too much and " if len(told) > MOST_WRITTEN else ""
+            raise CheckError(f"{command[0]} {wrote}ended with status {status}: {why}")
     seconds = time.process_time() + seconds_of_children() - before
     return ProgramAnswer(told.decode(errors="replace"), status, seconds)
 
 
 def run(command: Sequence[str], file: BinaryIO, length: int, fault: IO[bytes]) -> "tuple[bytes, int]":
-    """What the program writes, up to a byte more than it may, and its exit status; it is killed if it writes more."""
+    """What the program writes, up to a byte more than it may, and its exit status; it is killed if it writes
+    more."""
     try:
         # (Ctrl-C is for who watches; it has the check come to its end)
-        program = subprocess.Popen(command, stdin=subprocess.PIPE, stdout=subprocess.PIPE, stderr=fault, preexec_fn=ignore_interrupts)
+        program = subprocess.Popen(
+            command, stdin=subprocess.PIPE, stdout=subprocess.PIPE, stderr=fault, preexec_fn=ignore_interrupts
+        )
     except (OSError, subprocess.SubprocessError) as it:
         raise CheckError(f"{command[0]} can't be run: {it}") from it
     with program:
@@ -144,7 +153,8 @@ def whole_length(file: BinaryIO) -> int:
 
 
 def copy(file: BinaryIO, to: IO[bytes], length: int) -> None:
-    """Copies so many bytes, and closes what they go to. A reader that needs no more, since it refuses a line, closes its end."""
+    """Copies so many bytes, and closes what they go to. A reader that needs no more, since it refuses a line,
+    closes its end."""
     with contextlib.suppress(BrokenPipeError):
         while length > 0:
             data = file.read(min(AT_ONCE, length))

@@ -1,8 +1,8 @@
 """Terms that start too low: a hint of acknowledged writes that were lost, where no reply shows it.
 
-A primary that takes over goes on behind the last number that it knows. If its term starts at a number up to that of a write which was
-acknowledged in an earlier term, it didn't know of that write. A history in which nobody reads the write again may have an order all the
-same, since pairs are compared by their terms first.
+A primary that takes over goes on behind the last number that it knows. If its term starts at a number up to
+that of a write which was acknowledged in an earlier term, it didn't know of that write. A history in which
+nobody reads the write again may have an order all the same, since pairs are compared by their terms first.
 """
 
 import json
@@ -22,7 +22,8 @@ class Term:
 
 
 class Hint(NamedTuple):
-    """A term of a shard, the number at which it starts or before which it does, and the greatest acknowledged pair that isn't before it."""
+    """A term of a shard, the number at which it starts or before which it does, and the greatest acknowledged
+    pair that isn't before it."""
 
     shard: int
     start: Pair

@@ -1,4 +1,5 @@
-"""A client's connection, and the one to the cluster that it has: how it is made and closed, how much waits, and for how long."""
+"""A client's connection, and the one to the cluster that it has: how it is made and closed, how much waits,
+and for how long."""
 
 import socket
 from typing import TYPE_CHECKING, Optional, Union
@@ -60,7 +61,8 @@ class ClientConnection:
         proxy.clients.add(self)
 
     def received(self, data: bytes) -> None:
-        """Takes what the client sent. With its first bytes a connection to the cluster is made, before anything is recorded."""
+        """Takes what the client sent. With its first bytes a connection to the cluster is made, before
+        anything is recorded."""
         self.active_at = self.proxy.loop.now
         self.data = self.data + data if self.data else data
         if self.is_connected:
@@ -94,11 +96,22 @@ class ClientConnection:
             while not self.stream.is_closing and self.has_step():
                 pass
         except BadMessage as fault:
-            self.close(refusal("400 Bad Request", f"the request can't be read: {fault}") if self.exchange is None else b"")
+            self.close(
+                refusal("400 Bad Request", f"the request can't be read: {fault}")
+                if self.exchange is None
+                else b""
+            )
         exchange = self.exchange
         if self.stream.is_at_end and (exchange is None or exchange.state is TAKING):
             self.close()
-        if self.data or self.held or self.is_paused or exchange is None or exchange.weight or exchange.state is not SENT:
+        if (
+            self.data
+            or self.held
+            or self.is_paused
+            or exchange is None
+            or exchange.weight
+            or exchange.state is not SENT
+        ):
             self.update_flow()
 
     def ended(self) -> None:
@@ -139,10 +152,13 @@ class ClientConnection:
             self.cluster.stream.abort()
 
     def update_flow(self) -> None:
-        """Takes no more from the client while the cluster is slow to take it, or while an answer is waited for and much has come."""
+        """Takes no more from the client while the cluster is slow to take it, or while an answer is waited
+        for and much has come."""
         exchange = self.exchange
         is_taken = exchange is not None and exchange.state is not TAKING
-        is_paused = self.is_cluster_full or len(self.data) > MOST_AHEAD and (is_taken or not self.is_connected)
+        is_paused = (
+            self.is_cluster_full or len(self.data) > MOST_AHEAD and (is_taken or not self.is_connected)
+        )
         if is_paused != self.is_paused:
             self.is_paused = is_paused
             (self.stream.pause_reading if is_paused else self.stream.resume_reading)()
@@ -156,17 +172,24 @@ class ClientConnection:
         if exchange is not None:
             held += exchange.weight + (exchange.recorded.weight if exchange.recorded is not None else 0)
             held += len(exchange.answer) + (len(exchange.body.kept) if exchange.body is not None else 0)
-            held += len(exchange.coming.held) + len(exchange.coming.body.kept) if exchange.coming is not None else 0
+            held += (
+                len(exchange.coming.held) + len(exchange.coming.body.kept)
+                if exchange.coming is not None
+                else 0
+            )
         if held != self.held:
             self.proxy.hold(held - self.held)
             self.held = held
 
     def weight(self) -> int:
         """How many bytes wait for this client, or came from it, or wait to be sent to it."""
-        return self.held + self.stream.waiting + (self.cluster.stream.waiting if self.cluster is not None else 0)
+        return (
+            self.held + self.stream.waiting + (self.cluster.stream.waiting if self.cluster is not None else 0)
+        )
 
     def check_timeouts(self, now: float, most_idle: float) -> None:
-        """Closes the connection if it takes too long to make the one to the cluster, or nothing happens that the client could do."""
+        """Closes the connection if it takes too long to make the one to the cluster, or nothing happens that
+        the client could do."""
         weight = self.weight()
         if weight != self.last_weight:
             self.last_weight, self.active_at = weight, now
@@ -192,7 +215,8 @@ class ClientConnection:
             self.cluster.stream.resume_reading()
 
     def connection_lost(self) -> None:
-        """Ends the connection to the cluster, and with it what the client asked: it will hear of no answer."""
+        """Ends the connection to the cluster, and with it what the client asked: it will hear of no
+        answer."""
         self.proxy.clients.discard(self)
         self.proxy.hold(-self.held)
         self.held = 0

@@ -50,7 +50,9 @@ class ClientSide(ClientConnection):
             return False
         if isinstance(exchange.coming, ComingInPieces):
             exchange.hold()
-            self.proxy.work(self.take_items(exchange, exchange.coming), functools.partial(self.go_on_with, exchange))
+            self.proxy.work(
+                self.take_items(exchange, exchange.coming), functools.partial(self.go_on_with, exchange)
+            )
         else:
             self.take_piece(exchange, exchange.coming)
         return exchange.state is SENT
@@ -62,17 +64,19 @@ class ClientSide(ClientConnection):
             self.proxy.loop.soon(self.go_on)
 
     def has_request(self) -> bool:
-        """Takes the head of a request, and all of it where it came in one piece; tells whether there may be another step."""
+        """Takes the head of a request, and all of it where it came in one piece; tells whether there may be
+        another step."""
         data = self.data
         if data.startswith(b"\r\n"):
             data = self.data = without_empty_lines(data)
         end = head_end(data)
         if not end:
             return False
-        request = (remembered_request if end <= LONGEST_REMEMBERED else read_request)(data[:end])
+        head = data[:end]
+        request = remembered_request(head) if end <= LONGEST_REMEMBERED else read_request(head)
         node = self.node
         if node.sent_host or request.fields.offers_upgrade:
-            head, rest = passed_head(data[:end], node.sent_host), data[end:]
+            head, rest = passed_head(head, node.sent_host), data[end:]
             data, end = head + rest, len(head)
         judge, length = self.proxy.judge, request.length
         route = judge.route(request.method, request.target, node.paths)
@@ -80,7 +84,13 @@ class ClientSide(ClientConnection):
         if end > LONGEST_REMEMBERED:
             exchange.weight = HEADS * end
         is_bulk = route.kind is BULK
-        if is_bulk and self.proxy.discovery is not None and length is not None and end + length <= MOST_READ and not request.fields.encoding:
+        if (
+            is_bulk
+            and self.proxy.discovery is not None
+            and length is not None
+            and end + length <= MOST_READ
+            and not request.fields.encoding
+        ):
             # (it may make the index, and is read as a whole)
             is_bulk = False
         if length is not None and len(data) >= end + length and not (is_bulk and request.fields.encoding):
@@ -101,8 +111,11 @@ class ClientSide(ClientConnection):
         client = request.fields.opaque_id
         return Requester(client, self.node.name) if client else self.default_requester
 
-    def ask_and_send(self, exchange: Exchange, content: Optional[bytes], data: bytes, is_all: bool, has_turn: bool = False) -> None:
-        """Has the calls of a request written, and passes it on. The content is None where too much of it came to be read."""
+    def ask_and_send(
+        self, exchange: Exchange, content: Optional[bytes], data: bytes, is_all: bool, has_turn: bool = False
+    ) -> None:
+        """Has the calls of a request written, and passes it on. The content is None where too much of it came
+        to be read."""
         route, request, proxy = exchange.route, exchange.request, self.proxy
         if route is not PASS:
             if proxy.discovery is not None and not has_turn and proxy.discovery.concerns(route, content):
@@ -123,15 +136,30 @@ class ClientSide(ClientConnection):
                 self.account()
         self.send(exchange, data, is_all)
 
-    def wait_for_turn(self, discovery: IndexDiscovery, exchange: Exchange, content: Optional[bytes], data: bytes, is_all: bool) -> None:
+    def wait_for_turn(
+        self,
+        discovery: IndexDiscovery,
+        exchange: Exchange,
+        content: Optional[bytes],
+        data: bytes,
+        is_all: bool,
+    ) -> None:
         """Holds back a request for an index that isn't there yet until it has its turn."""
         exchange.hold()
         exchange.weight += len(data)
         self.account()
         discovery.queue.wait_for(lambda: self.has_turn(discovery, exchange, content, data, is_all))
 
-    def has_turn(self, discovery: IndexDiscovery, exchange: Exchange, content: Optional[bytes], data: bytes, is_all: bool) -> None:
-        """Passes on a request for an index that isn't there yet. One that may make it keeps the turn until it was answered."""
+    def has_turn(
+        self,
+        discovery: IndexDiscovery,
+        exchange: Exchange,
+        content: Optional[bytes],
+        data: bytes,
+        is_all: bool,
+    ) -> None:
+        """Passes on a request for an index that isn't there yet. One that may make it keeps the turn until it
+        was answered."""
         exchange.go_on()
         exchange.weight -= len(data)
         route, request = exchange.route, exchange.request
@@ -143,7 +171,9 @@ class ClientSide(ClientConnection):
             self.ask_and_send(exchange, content, data, is_all, True)
         else:
             plain = decoded(content, request.fields.encoding, MOST_READ) if content else content
-            making = exchange.recorded = IndexMakingRequest(route, request.method, plain, self.requester_of(request))
+            making = exchange.recorded = IndexMakingRequest(
+                route, request.method, plain, self.requester_of(request)
+            )
             discovery.makes(making, lambda: self.lose(exchange))
             self.send(exchange, data, is_all)
         if exchange.state is not HELD:
@@ -162,7 +192,10 @@ class ClientSide(ClientConnection):
             exchange.send_all()
         discovery = self.proxy.discovery
         if discovery is not None and exchange.request.method not in READS:
-            discovery.passes(exchange, Passed(exchange.request.method, exchange.request.target, self.node.paths, exchange.route))
+            discovery.passes(
+                exchange,
+                Passed(exchange.request.method, exchange.request.target, self.node.paths, exchange.route),
+            )
         self.cluster.stream.write(data)
 
     def take_piece(self, exchange: Exchange, coming: Coming) -> None:
@@ -185,7 +218,8 @@ class ClientSide(ClientConnection):
             self.send(exchange, coming.taken(), body.is_done)
 
     def take_items(self, exchange: Exchange, coming: ComingInPieces) -> Iterator[None]:
-        """Takes what came of a bulk request, in steps, and passes it on as far as the calls of its items are written."""
+        """Takes what came of a bulk request, in steps, and passes it on as far as the calls of its items are
+        written."""
         judge, body, recorded = self.proxy.judge, coming.body, exchange.recorded
         assert isinstance(recorded, RecordedBulkRequest)
         count = body.take(self.data)

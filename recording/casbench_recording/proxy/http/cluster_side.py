@@ -1,4 +1,5 @@
-"""The connection to the cluster that a client's has: answers are passed on as they came, behind the lines of what they say."""
+"""The connection to the cluster that a client's has: answers are passed on as they came, behind the lines of
+what they say."""
 
 import socket
 from typing import TYPE_CHECKING, Iterator, Optional, Union
@@ -15,6 +16,7 @@ from casbench_recording.http1 import (
 )
 from casbench_recording.proxy.json_bodies import MOST_READ
 from casbench_recording.proxy.recording.answer_recorder import MOST_AT_ONCE
+from casbench_recording.proxy.recording.index_discovery import IndexDiscovery
 from casbench_recording.proxy.recording.recorded_requests import IndexMakingRequest
 from casbench_recording.proxy.routing.routes import BULK, READS, RouteKind
 
@@ -30,7 +32,8 @@ OF_OTHERS = (RouteKind.PASS, BULK, RouteKind.CHECK_BODY)
 """Requests that aren't for the index, by the names of it that are known, unless their bodies say so."""
 
 MOST_OF_ITEMS = 32 * 1024 * 1024
-"""The most bytes of an answer to a bulk request that are held back to be read, some of its items at a time."""
+"""The most bytes of an answer to a bulk request that are held back to be read, some of its items at a
+time."""
 
 
 class ClusterSide:
@@ -46,7 +49,9 @@ class ClusterSide:
             self.stream = Stream(loop, connection, self)
             loop.soon(lambda: client.has_cluster(None))
         else:
-            self.stream = TlsStream(loop, connection, self, cluster.trust, str(cluster.url.hostname), client.has_cluster)
+            self.stream = TlsStream(
+                loop, connection, self, cluster.trust, str(cluster.url.hostname), client.has_cluster
+            )
 
     def received(self, data: bytes) -> None:
         """Takes what the cluster sent, and passes it on."""
@@ -75,25 +80,28 @@ class ClusterSide:
         return True
 
     def has_head(self, exchange: Exchange) -> bool:
-        """Takes the head of an answer, and all of it where it came in one piece; tells whether there may be another step."""
+        """Takes the head of an answer, and all of it where it came in one piece; tells whether there may be
+        another step."""
         data = self.data
         end = head_end(data)
         if not end:
             return False
-        response = (remembered_response if end <= LONGEST_REMEMBERED else read_response)(data[:end])
+        head = data[:end]
+        response = remembered_response(head) if end <= LONGEST_REMEMBERED else read_response(head)
         method = exchange.request.method
         if response.status < 200:
             self.data = data[end:]
-            self.go_on(exchange, response, data[:end])
+            self.go_on(exchange, response, head)
         elif len(data) - end == response.length_for(method):
             self.data, exchange.answer = b"", data
             self.finish(exchange, response, data[end:])
         else:
             self.data = data[end:]
-            exchange.response, exchange.body = response, response.body(method)
-            exchange.body.is_kept = exchange.recorded is not None
-            exchange.answer = bytearray(data[:end])
-            if exchange.body.is_done:
+            body = response.body(method)
+            body.is_kept = exchange.recorded is not None
+            exchange.response, exchange.body = response, body
+            exchange.answer = bytearray(head)
+            if body.is_done:
                 self.finish(exchange, response, b"")
         return True
 
@@ -150,7 +158,8 @@ class ClusterSide:
             self.work(proxy.judge.answers.answering(recorded, response.status, plain), exchange)
 
     def work(self, steps: Iterator[None], exchange: Exchange) -> None:
-        """Does what takes a while, in steps, and then goes on with the answer. Nothing more is taken meanwhile."""
+        """Does what takes a while, in steps, and then goes on with the answer. Nothing more is taken
+        meanwhile."""
         self.stream.pause_reading()
 
         def go_on() -> None:
@@ -159,11 +168,14 @@ class ClusterSide:
 
         self.client.proxy.work(steps, go_on)
 
-    def discover_made_index(self, exchange: Exchange, making: IndexMakingRequest, response: Response, content: Optional[bytes]) -> None:
-        """Has the index looked at that a request may have made; then its call and its reply are written, and others go on."""
+    def discover_made_index(
+        self, exchange: Exchange, making: IndexMakingRequest, response: Response, content: Optional[bytes]
+    ) -> None:
+        """Has the index looked at that a request may have made; then its call and its reply are written, and
+        others go on."""
         proxy = self.client.proxy
-        discovery = proxy.discovery
-        assert discovery is not None
+        assert proxy.discovery is not None
+        discovery: IndexDiscovery = proxy.discovery
         self.stream.pause_reading()
 
         def go_on() -> None:
@@ -173,7 +185,8 @@ class ClusterSide:
         discovery.answered(exchange, go_on, True)
 
     def discover_index(self, exchange: Exchange) -> None:
-        """Has the index looked for, if it wasn't there and the request may have made it; then passes the answer on."""
+        """Has the index looked for, if it wasn't there and the request may have made it; then passes the
+        answer on."""
         discovery = self.client.proxy.discovery
         if discovery is None or exchange.request.method in READS:
             self.deliver(exchange)
@@ -200,7 +213,8 @@ class ClusterSide:
         elif exchange.state is ANSWERED and not self.stream.is_closing:
             client.answered()
         else:
-            # (the cluster is gone, or didn't want the rest of the request, and the client's next one can't be distinguished from it)
+            # (the cluster is gone, or didn't want the rest of the request, and the client's next one can't be
+            # distinguished from it)
             client.close()
         if client.held:
             client.account()
@@ -228,12 +242,18 @@ class ClusterSide:
         self.stream.close()
 
     def connection_lost(self) -> None:
-        """Ends the client's connection too: with the end of an answer that ends so, or with word that there is none."""
+        """Ends the client's connection too: with the end of an answer that ends so, or with word that there
+        is none."""
         client = self.client
         exchange = client.exchange
         if client.stream.is_closing or exchange is not None and exchange.state in WITH_ANSWER:
             return
-        if exchange is not None and exchange.body is not None and exchange.body.at_close() and self.stream.is_at_end:
+        if (
+            exchange is not None
+            and exchange.body is not None
+            and exchange.body.at_close()
+            and self.stream.is_at_end
+        ):
             assert exchange.response is not None
             self.finish(exchange, exchange.response, exchange.body.content())
         elif exchange is not None:

@@ -1,4 +1,5 @@
-"""Connections to the cluster, made without waiting: each of its addresses is tried, until one takes the connection or time is up."""
+"""Connections to the cluster, made without waiting: each of its addresses is tried, until one takes the
+connection or time is up."""
 
 import contextlib
 import errno
@@ -20,7 +21,8 @@ Made = Callable[[Union[socket.socket, OSError]], None]
 
 
 class Addresses:
-    """The addresses of a host. They are looked up at first, and again, by one thread at most, after none of them took a connection."""
+    """The addresses of a host. They are looked up at first, and again, by one thread at most, after none of
+    them took a connection."""
 
     def __init__(self, host: str, port: int) -> None:
         self._host = host
@@ -63,7 +65,8 @@ class Connecting:
         self._try_next()
 
     def _try_next(self) -> None:
-        """Tries the addresses that are left, up to one for which the system says later whether it takes the connection."""
+        """Tries the addresses that are left, up to one for which the system says later whether it takes the
+        connection."""
         while self._left:
             family, address = self._left.pop(0)
             self._end = self._loop.now + self._each

@@ -115,7 +115,9 @@ class Unpacking:
         else:
             yield from self._unpacked(self._decoder, content, is_last)
 
-    def _unpacked(self, decoder: "zlib._Decompress", content: bytes, is_last: bool) -> Iterator[Optional[bytes]]:
+    def _unpacked(
+        self, decoder: "zlib._Decompress", content: bytes, is_last: bool
+    ) -> Iterator[Optional[bytes]]:
         """The same of a packed one."""
         plain = bytes(SLICE)
         while not decoder.eof and (content or len(plain) == SLICE):
@@ -132,12 +134,14 @@ class Unpacking:
 
 
 class ComingInPieces(Coming):
-    """What came of a bulk request: each piece is passed on when the calls are written of all items that begin in it."""
+    """What came of a bulk request: each piece is passed on when the calls are written of all items that begin
+    in it."""
 
     def __init__(self, head: bytes, body: Body, encoding: bytes) -> None:
         super().__init__(head, body, True)
         self.unpacking = Unpacking(encoding)
-        # how many bytes of the plain content came, and the pieces that wait, each with how many had come at its end
+        # how many bytes of the plain content came, and the pieces that wait, each with how many had come at
+        # its end
         self.length = 0
         self._waiting: Deque[Tuple[int, int]] = deque()
 

@@ -1,7 +1,7 @@
 """One loop that waits for many connections at once, on one thread.
 
-Received data is handed on in the same turn, and written data is passed to the operating system at once as far as it accepts it:
-there is no task and no queue in between.
+Received data is handed on in the same turn, and written data is passed to the operating system at once as far
+as it accepts it: there is no task and no queue in between.
 """
 
 import contextlib
@@ -18,7 +18,8 @@ from typing import Any, Callable, Deque, Dict, List, Protocol, Union
 from casbench_recording.console import tell_fault, tell_line
 
 PIECE = 65_536
-"""The most bytes that are read at once. For larger pieces memory would be requested from the system each time."""
+"""The most bytes that are read at once. For larger pieces memory would be requested from the system each
+time."""
 
 MOST_WAITING = 65_536
 """How many bytes may wait to be sent before the writer has to pause."""
@@ -58,7 +59,8 @@ class StreamUser(Protocol):
 
 
 class Loop:
-    """The loop. Any thread or signal handler may call `call` and `stop`; all else is for the thread that runs it."""
+    """The loop. Any thread or signal handler may call `call` and `stop`; all else is for the thread that runs
+    it."""
 
     def __init__(self) -> None:
         self.is_over = self._has_signals = False
@@ -86,7 +88,8 @@ class Loop:
     def run(self) -> None:
         """Runs until it is stopped.
 
-        A separate thread wakes the loop for each tick: a timeout for each wait would cost more than all ticks do.
+        A separate thread wakes the loop for each tick: a timeout for each wait would cost more than all ticks
+        do.
         """
         select, calls, following, clock = self._selector.select, self._calls, self._next, time.monotonic
         threading.Thread(target=self._keep_time, daemon=True).start()
@@ -150,7 +153,8 @@ class Loop:
         self._wake_up()
 
     def stop_at(self, *signals: int) -> None:
-        """Ends the loop at a signal, whichever thread receives it. The main thread calls this, and runs the loop."""
+        """Ends the loop at a signal, whichever thread receives it. The main thread calls this, and runs the
+        loop."""
         self._has_signals = True
         signal.set_wakeup_fd(self._waker.fileno(), warn_on_full_buffer=False)
         for it in signals:
@@ -186,7 +190,9 @@ class Loop:
         while self._lingering and (self._lingering[0].is_closed or self._lingering[0].lingers_to <= now):
             self._lingering.popleft().abort()
 
-    def watch(self, what: socket.socket, before: int, after: int, handle_events: Callable[[int], None]) -> None:
+    def watch(
+        self, what: socket.socket, before: int, after: int, handle_events: Callable[[int], None]
+    ) -> None:
         """Watches a socket for these events instead of those before."""
         if not before:
             self._selector.register(what, after, handle_events)
@@ -213,7 +219,9 @@ class Loop:
 class Listener:
     """A listening socket."""
 
-    def __init__(self, loop: Loop, family: int, address: Any, accepted: Callable[[socket.socket], object]) -> None:
+    def __init__(
+        self, loop: Loop, family: int, address: Any, accepted: Callable[[socket.socket], object]
+    ) -> None:
         self._loop = loop
         self._accepted = accepted
         self.socket = socket.socket(family, socket.SOCK_STREAM)
@@ -236,7 +244,8 @@ class Listener:
         return int(self.socket.getsockname()[1])
 
     def handle_events(self, events: int) -> None:
-        """Accepts a connection, if there is one. If the system has no room for it, accepts none until one is closed."""
+        """Accepts a connection, if there is one. If the system has no room for it, accepts none until one is
+        closed."""
         try:
             connection, _ = self.socket.accept()
         except OSError as fault:
@@ -293,7 +302,8 @@ class Stream:
         return len(self._waiting)
 
     def handle_events(self, events: int) -> None:
-        """Handles events of the socket. An exception of the connection's user closes this connection, and no other one."""
+        """Handles events of the socket. An exception of the connection's user closes this connection, and no
+        other one."""
         try:
             if events & WRITE:
                 self._send_waiting()
@@ -339,7 +349,8 @@ class Stream:
             self.user.pause_writing()
 
     def _send(self, data: Union[bytes, bytearray]) -> int:
-        """Passes bytes to the system; returns how many it accepted. After an error the connection is closed."""
+        """Passes bytes to the system; returns how many it accepted. After an error the connection is
+        closed."""
         try:
             return self._socket.send(data)
         except (BlockingIOError, InterruptedError):
@@ -390,10 +401,11 @@ class Stream:
                 self._close_now()
 
     def linger(self) -> None:
-        """Closes the connection when all waiting bytes are sent and the other side has closed it too, or after a while.
+        """Closes the connection when all waiting bytes are sent and the other side has closed it too, or
+        after a while.
 
-        Data received until then is discarded. If it weren't read, the system would reset the connection, and the other side
-        would lose what it hasn't read yet.
+        Data received until then is discarded. If it weren't read, the system would reset the connection, and
+        the other side would lose what it hasn't read yet.
         """
         if self.is_closing:
             return

@@ -4,5 +4,5 @@
 def refusal(status: str, why: str) -> bytes:
     """An answer of the proxy itself, after which the connection is closed."""
     body = f"casbench_recording.proxy: {why}\n".encode()
-    head = f"HTTP/1.1 {status}\r\nContent-Type: text/plain\r\nContent-Length: {len(body)}\r\nConnection: close\r\n\r\n"
-    return head.encode() + body
+    fields = f"Content-Type: text/plain\r\nContent-Length: {len(body)}\r\nConnection: close\r\n"
+    return f"HTTP/1.1 {status}\r\n{fields}\r\n".encode() + body

@@ -11,10 +11,11 @@ NO_RENEGOTIATION = getattr(ssl, "OP_NO_RENEGOTIATION", 0)
 
 
 class TlsStream:
-    """An encrypted connection. For its user it is a stream, and it is the user of the stream of encrypted bytes.
+    """An encrypted connection. For its user it is a stream, and it is the user of the stream of encrypted
+    bytes.
 
-    Nothing is written before it is ready. `tell_ready` is called once: with None when it is, or with the error because of which
-    it never will be.
+    Nothing is written before it is ready. `tell_ready` is called once: with None when it is, or with the
+    error because of which it never will be.
     """
 
     def __init__(
@@ -33,7 +34,9 @@ class TlsStream:
         # whether the other side sent close_notify; the end of the connection alone doesn't count
         self.is_at_end = False
         self._incoming, self._outgoing = ssl.MemoryBIO(), ssl.MemoryBIO()
-        self._tls = tls.wrap_bio(self._incoming, self._outgoing, server_side=host is None, server_hostname=host)
+        self._tls = tls.wrap_bio(
+            self._incoming, self._outgoing, server_side=host is None, server_hostname=host
+        )
         self._stream = Stream(loop, connection, self)
         loop.soon(self._shake_hands)
 

@@ -1,1 +1,2 @@
-"""What is written for a request and its answer: calls, replies, and the end of a recording that can't go on."""
+"""What is written for a request and its answer: calls, replies, and the end of a recording that can't go
+on."""

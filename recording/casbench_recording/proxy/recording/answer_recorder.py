@@ -1,4 +1,5 @@
-"""What an answer says of the calls of its request. The lines of their endings are written before the answer is passed on."""
+"""What an answer says of the calls of its request. The lines of their endings are written before the answer
+is passed on."""
 
 from typing import Any, Iterator, List, Optional, Sequence, Union
 
@@ -58,8 +59,11 @@ class AnswerRecorder:
         # the endings that are written next, together, or None if each is written at once
         self._endings: Optional[List[Ending]] = None
 
-    def answered(self, recorded: RecordedRequest, status: int, content: Optional[bytes], length: Optional[int]) -> None:
-        """Writes what an answer says, after all of it was received. The content is None where it can't be read."""
+    def answered(
+        self, recorded: RecordedRequest, status: int, content: Optional[bytes], length: Optional[int]
+    ) -> None:
+        """Writes what an answer says, after all of it was received. The content is None where it can't be
+        read."""
         if recorded.kind in OF_SEVERAL:
             for _ in self.answering(recorded, status, content):
                 pass
@@ -70,14 +74,19 @@ class AnswerRecorder:
             (part,) = recorded.parts
             assert part is not None
             if recorded.is_head:
-                self._answered(part, status, missing_by_length(self._documents.shape, part.id, length) if status == 404 else {})
+                self._answered(
+                    part,
+                    status,
+                    missing_by_length(self._documents.shape, part.id, length) if status == 404 else {},
+                )
             else:
                 self._answered(part, status, read_reply(part.op, status, content) or object_of(content))
         except Exception as fault:
             self._writer.end_by(fault)
 
     def answering(self, recorded: RecordedRequest, status: int, content: Optional[bytes]) -> Iterator[None]:
-        """The same of an answer to a request on several documents, in steps, between which others may have their turn."""
+        """The same of an answer to a request on several documents, in steps, between which others may have
+        their turn."""
         try:
             if not self._writer.has_ended:
                 yield from self._record_answer_to_several(recorded, status, content)
@@ -85,12 +94,13 @@ class AnswerRecorder:
             self._writer.end_by(fault)
 
     def lost(self, recorded: RecordedRequest) -> None:
-        """Writes that no whole answer came. A write without an id, or a request on unnamed documents, stays open for good."""
+        """Writes that no whole answer came. A write without an id, or a request on unnamed documents, stays
+        open for good."""
         if self._writer.has_ended:
             return
         lost: List[Call] = []
-        for part in recorded.parts:
-            call = ending_call(part) if part is not None else None
+        for part in filter(None, recorded.parts):
+            call = ending_call(part)
             if call is not None:
                 lost.append(call)
                 if part.turn:
@@ -98,12 +108,19 @@ class AnswerRecorder:
         self._writer.lose(lost)
         self._documents.rest(recorded.parts)
 
-    def _record_answer_to_several(self, recorded: RecordedRequest, status: int, content: Optional[bytes]) -> Iterator[None]:
+    def _record_answer_to_several(
+        self, recorded: RecordedRequest, status: int, content: Optional[bytes]
+    ) -> Iterator[None]:
         """Writes what an answer says to a request on several documents."""
         is_long = content is not None and len(content) > MOST_READ
         body = object_of(content) if not is_long else None
         if recorded.kind is SWEEP:
-            if status == 200 and recorded.is_over_at_answer and body is not None and not {"task", "timed_out"} & true_members(body):
+            if (
+                status == 200
+                and recorded.is_over_at_answer
+                and body is not None
+                and not {"task", "timed_out"} & true_members(body)
+            ):
                 self._documents.open_sweeps -= 1
         elif recorded.kind is RouteKind.MULTIPLE_GET:
             items = listed(body, "docs", len(recorded.parts)) if status == 200 else iter(())
@@ -113,11 +130,18 @@ class AnswerRecorder:
                 for part in filter(None, recorded.parts):
                     self._answered(part, status, body)
                 return
-            whole = items_of_long(content) if is_long and content is not None else listed(body, "items", len(recorded.parts))
+            whole = (
+                items_of_long(content)
+                if is_long and content is not None
+                else listed(body, "items", len(recorded.parts))
+            )
             yield from self._answered_items(recorded.parts, whole if status == 200 else iter(()), "items")
 
-    def _answered_items(self, parts: Sequence[Optional[RequestedCall]], items: Iterator[Any], member: str) -> Iterator[None]:
-        """Writes what an answer says of each item: of one that doesn't stand in its place nothing can be told."""
+    def _answered_items(
+        self, parts: Sequence[Optional[RequestedCall]], items: Iterator[Any], member: str
+    ) -> Iterator[None]:
+        """Writes what an answer says of each item: of one that doesn't stand in its place nothing can be
+        told."""
         for at in range(0, len(parts), MOST_AT_ONCE):
             if at:
                 yield
@@ -139,7 +163,9 @@ class AnswerRecorder:
         told = item
         if member == "items":
             told = next(iter(item.values())) if isinstance(item, dict) and len(item) == 1 else None
-        is_its = isinstance(told, dict) and (not part.id or "_id" in told and (told["_id"] == part.id or part.op != "get"))
+        is_its = isinstance(told, dict) and (
+            not part.id or "_id" in told and (told["_id"] == part.id or part.op != "get")
+        )
         status = item_status(member, told) if is_its else 0
         self._answered(part, status, told if status else None)
 
@@ -153,7 +179,9 @@ class AnswerRecorder:
         elif part.call is not None and (document := part.document) is not None:
             if body is not None and body.get("_id", part.id) != part.id:
                 self._documents.note_unknown_write(part.id, "an answer told another id")
-                self._documents.note_unknown_write(str(body["_id"]), "an answer told this id, and another one was asked for")
+                self._documents.note_unknown_write(
+                    str(body["_id"]), "an answer told this id, and another one was asked for"
+                )
                 body = None
             if body is None:
                 self._end(part, document, Loss.UNKNOWN, status, {}, None)
@@ -161,8 +189,11 @@ class AnswerRecorder:
                 pair = pair_if(body.get("_primary_term"), body.get("_seq_no"))
                 self._end(part, document, self._reply(part, document, status, body, pair), status, body, pair)
 
-    def _reply(self, part: RequestedCall, document: Document, status: int, body: JsonObject, pair: Optional[Pair]) -> Union[Reply, Loss]:
-        """The status and the text of the body that are written for a reply which shows this pair, or what is known without them."""
+    def _reply(
+        self, part: RequestedCall, document: Document, status: int, body: JsonObject, pair: Optional[Pair]
+    ) -> Union[Reply, Loss]:
+        """The status and the text of the body that are written for a reply which shows this pair, or what is
+        known without them."""
         text: Optional[str] = None
         if part.op == "get":
             if status == 200 and pair is not None and body.get("found") is True:
@@ -174,7 +205,12 @@ class AnswerRecorder:
             return Loss.VOID
         elif status == 409 and not part.is_sure:
             return Loss.OVER if type_of(body.get("error")) == CONFLICT else Loss.UNKNOWN
-        elif pair is not None and (value := part.operation.value) is not None and status in RESULTS and body.get("result") == RESULTS[status]:
+        elif (
+            pair is not None
+            and (value := part.operation.value) is not None
+            and status in RESULTS
+            and body.get("result") == RESULTS[status]
+        ):
             document.written(pair, value)
             text = text_of_write(part.id, RESULTS[status], pair)
         if document.state is UNSURE and not self._is_settled(part, status, body):
@@ -184,16 +220,21 @@ class AnswerRecorder:
         text = readable(part.id, body)
         return (status, text) if text is not None else Loss.UNKNOWN
 
-    def _number_shown(self, part: RequestedCall, document: Document, pair: Pair, source: Any) -> Optional[int]:
+    def _number_shown(
+        self, part: RequestedCall, document: Document, pair: Pair, source: Any
+    ) -> Optional[int]:
         """The number of the version that a get found, with this source; None if it can't be determined."""
         if isinstance(source, Digest):
             # (a reply of the usual form has it there)
             return document.number_shown(pair, source, part.shows_all)
         is_object = isinstance(source, dict)
-        return document.number_shown(pair, digest_of(source) if is_object else None, is_object and part.shows_all)
+        return document.number_shown(
+            pair, digest_of(source) if is_object else None, is_object and part.shows_all
+        )
 
     def _is_settled(self, part: RequestedCall, status: int, body: JsonObject) -> bool:
-        """Whether a reply settles that the document wasn't there before. One that shows that it was ends its judgement."""
+        """Whether a reply settles that the document wasn't there before. One that shows that it was ends its
+        judgement."""
         document = part.document
         assert document is not None
         told = (status, body.get("result"), body.get("found"))
@@ -208,15 +249,23 @@ class AnswerRecorder:
         return False
 
     def _answered_new(self, part: RequestedCall, status: int, body: Optional[JsonObject]) -> None:
-        """Writes the call and the reply of a write whose id the answer tells. Nobody asked for that document before, or it isn't judged.
+        """Writes the call and the reply of a write whose id the answer tells. Nobody asked for that document
+        before, or it isn't judged.
 
-        The call's line stands late. That is right: the document has no other call between the line and where it belongs.
+        The call's line stands late. That is right: the document has no other call between the line and where
+        it belongs.
         """
         id, pair = (body or {}).get("_id"), pair_of(body)
         if is_unperformed(status, body):
             self._documents.unnamed -= 1
             return
-        if status != 201 or body is None or pair is None or not isinstance(id, str) or body.get("result") != "created":
+        if (
+            status != 201
+            or body is None
+            or pair is None
+            or not isinstance(id, str)
+            or body.get("result") != "created"
+        ):
             return
         documents = self._documents
         documents.unnamed -= 1
@@ -230,7 +279,15 @@ class AnswerRecorder:
         elif self._asking.write_part(part):
             self._answered(part, status, body)
 
-    def _end(self, part: RequestedCall, document: Document, ending: Union[Reply, Loss], status: int, body: JsonObject, pair: Optional[Pair]) -> None:
+    def _end(
+        self,
+        part: RequestedCall,
+        document: Document,
+        ending: Union[Reply, Loss],
+        status: int,
+        body: JsonObject,
+        pair: Optional[Pair],
+    ) -> None:
         """Ends the call of a part, on this document, by a reply or without one."""
         call = ending_call(part)
         if call is None:
@@ -251,7 +308,8 @@ class AnswerRecorder:
 
 
 def ending_call(part: RequestedCall) -> Optional[Call]:
-    """The call of a part, which ends now; None if it has none, or its ending was written when its document was judged no longer."""
+    """The call of a part, which ends now; None if it has none, or its ending was written when its document
+    was judged no longer."""
     call, document = part.call, part.document
     if call is None or document is None:
         return None
@@ -263,8 +321,9 @@ def ending_call(part: RequestedCall) -> Optional[Call]:
 def is_void(part: RequestedCall, status: int, body: JsonObject, pair: Optional[Pair]) -> bool:
     """Whether a reply proves that a write was not performed, at no attempt.
 
-    An update is tried by the primary's node, which may have performed an earlier attempt and then finds nothing to change, or, after a
-    delete, no document. If no other write was under way neither can be: what was acknowledged before is what it found.
+    An update is tried by the primary's node, which may have performed an earlier attempt and then finds
+    nothing to change, or, after a delete, no document. If no other write was under way neither can be: what
+    was acknowledged before is what it found.
     """
     if not isinstance(part, RequestedUpdate):
         return is_unperformed(status, body)
@@ -277,7 +336,9 @@ def is_void(part: RequestedCall, status: int, body: JsonObject, pair: Optional[P
     return was_alone and (status == 404 or part.before is not None and pair == part.before)
 
 
-def note_write_ending(part: RequestedCall, ending: Union[Reply, Loss], status: int, body: JsonObject, pair: Optional[Pair]) -> None:
+def note_write_ending(
+    part: RequestedCall, ending: Union[Reply, Loss], status: int, body: JsonObject, pair: Optional[Pair]
+) -> None:
     """Heeds what the ending of a write, and the reply, say of whether it was performed."""
     document = part.document
     assert document is not None

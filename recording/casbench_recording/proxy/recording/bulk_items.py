@@ -22,7 +22,8 @@ class UnknownWrites(Exception):
 
 
 class BulkItem:
-    """An item: what it does, the words of its action, and its source, or None if it has none or one that is too long."""
+    """An item: what it does, the words of its action, and its source, or None if it has none or one that is
+    too long."""
 
     __slots__ = ("op", "parameters", "source")
 
@@ -72,7 +73,8 @@ class BulkItems:
         return items
 
     def _take_piece(self, piece: bytes, items: List[BulkItem]) -> None:
-        """Takes a piece of a line that hasn't ended. An item whose source is too long is given before the end of it."""
+        """Takes a piece of a line that hasn't ended. An item whose source is too long is given before the end
+        of it."""
         if self._skips:
             self._taken += len(piece)
         else:
@@ -128,14 +130,15 @@ LONGEST_ITEM = 65_536
 """The most letters of an item of a long answer that is sure to be read."""
 
 WINDOW = 4 * LONGEST_ITEM
-"""The most letters of a long answer that are looked at together, so of which an item that isn't read takes memory."""
+"""The most letters of a long answer that are looked at together, so of which an item that isn't read takes
+memory."""
 
 read_next = json.JSONDecoder(parse_int=whole_number).raw_decode
 
 
 def items_of_long(content: bytes) -> Iterator[Any]:
-    """The items of an answer that is too long to be read at once, if it is of the usual form and ASCII, and no item is too long. Raises
-    ValueError at what can't be read."""
+    """The items of an answer that is too long to be read at once, if it is of the usual form and ASCII, and
+    no item is too long. Raises ValueError at what can't be read."""
     text = content.decode("ascii")
     start = START.match(text)
     if start is None:

@@ -1,8 +1,8 @@
 """Replies to calls in the form that clusters usually give them, read without reading all of their JSON.
 
-What is read here has the same members that count, with the same values, as the JSON reader would find: the pattern spells the
-whole reply, with no member twice and no text in which anything is escaped, but for a source; and that is read by the JSON reader, unless
-it was read before. Anything else isn't read here.
+What is read here has the same members that count, with the same values, as the JSON reader would find: the
+pattern spells the whole reply, with no member twice and no text in which anything is escaped, but for a
+source; and that is read by the JSON reader, unless it was read before. Anything else isn't read here.
 """
 
 import re
@@ -50,7 +50,13 @@ def read_reply(op: str, status: int, content: Optional[bytes]) -> Optional[JsonO
 def written(told: "re.Match[bytes]") -> JsonObject:
     """What a write's reply says."""
     index, id, result, seq, term = told.groups()
-    return {"_index": index.decode(), "_id": id.decode(), "result": result.decode(), "_seq_no": int(seq), "_primary_term": int(term)}
+    return {
+        "_index": index.decode(),
+        "_id": id.decode(),
+        "result": result.decode(),
+        "_seq_no": int(seq),
+        "_primary_term": int(term),
+    }
 
 
 def found(told: "re.Match[bytes]", content: bytes) -> Optional[JsonObject]:

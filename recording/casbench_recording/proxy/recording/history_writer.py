@@ -1,4 +1,5 @@
-"""The lines of a recording that watches, and its end: at its time, or before it, where what is written can't be determined any more."""
+"""The lines of a recording that watches, and its end: at its time, or before it, where what is written can't
+be determined any more."""
 
 from typing import Callable, Dict, List, Sequence, Union
 
@@ -42,7 +43,8 @@ class HistoryWriter:
         self._end_histories()
 
     def end_by(self, fault: Exception) -> None:
-        """Ends the recording: the application goes on, and nothing stands in the history behind what wasn't understood."""
+        """Ends the recording: the application goes on, and nothing stands in the history behind what wasn't
+        understood."""
         self.end(str(fault) if isinstance(fault, UnknownWrites) else f"a fault of the recorder: {fault!r}")
 
     def _end_histories(self) -> None:
@@ -66,7 +68,8 @@ class HistoryWriter:
         self.on_ended(why)
 
     def write_calls(self, parts: Sequence[RequestedCall]) -> None:
-        """Writes the lines of calls, those of one shard together. A history that is full ends, and with it what is open."""
+        """Writes the lines of calls, those of one shard together. A history that is full ends, and with it
+        what is open."""
         shards = {it.operation.shard for it in parts}
         for shard in shards:
             its = parts if len(shards) == 1 else [it for it in parts if it.operation.shard == shard]
@@ -101,7 +104,9 @@ class HistoryWriter:
             if self._moved:
                 self._go_on([part])
 
-    def _left(self, history: CallWriter, parts: Sequence[RequestedCall], fault: Exception) -> List[RequestedCall]:
+    def _left(
+        self, history: CallWriter, parts: Sequence[RequestedCall], fault: Exception
+    ) -> List[RequestedCall]:
         """The parts whose lines can still be written after this fault: none if the history ended."""
         if isinstance(fault, TooManyLost):
             self.on_too_many_lost(fault.id, str(fault))
@@ -111,7 +116,9 @@ class HistoryWriter:
 
     def _go_on(self, parts: Sequence[RequestedCall]) -> None:
         """Has the documents that begin another part forget what that has nothing of."""
-        for document in {it.document for it in parts if it.document is not None and it.document.id in self._moved}:
+        for document in {
+            it.document for it in parts if it.document is not None and it.document.id in self._moved
+        }:
             document.goes_on(self._moved[document.id])
         self._moved.clear()
 

@@ -1,10 +1,11 @@
 """The time in which the index isn't there yet: it is looked for after each write that may have made it.
 
-Requests for the index take turns. One that may make it is passed on alone: when it was answered, and the index looked at, its call and its
-reply are written, and the others go on. Who asks for another index waits for nobody.
+Requests for the index take turns. One that may make it is passed on alone: when it was answered, and the
+index looked at, its call and its reply are written, and the others go on. Who asks for another index waits
+for nobody.
 
-A thread asks the cluster, one question at a time. What was passed on meanwhile may have written to the index, by a name of it
-that isn't known yet, so that is remembered.
+A thread asks the cluster, one question at a time. What was passed on meanwhile may have written to the index,
+by a name of it that isn't known yet, so that is remembered.
 """
 
 import threading
@@ -32,8 +33,9 @@ PATIENCE = SECONDS + 2.0
 """For how many seconds an answer of the cluster is waited for."""
 
 MOST_FOR_OTHERS = 0.5
-"""For how many seconds those wait for it, at most, whose requests are for another index. (An application that uses a name of the index that
-isn't known yet goes on when the index was looked at, if the cluster answers as usual.)"""
+"""For how many seconds those wait for it, at most, whose requests are for another index. (An application that
+uses a name of the index that isn't known yet goes on when the index was looked at, if the cluster answers as
+usual.)"""
 
 
 class Waiting(NamedTuple):
@@ -51,8 +53,8 @@ class IndexDiscovery:
         self._inspector = inspector
         self._index = index
         self._judge = judge
-        # writes that were passed on: those that are not answered, those that were while the index was looked for, and
-        # those that never will be
+        # writes that were passed on: those that are not answered, those that were while the index was looked
+        # for, and those that never will be
         self._open: Dict[object, Passed] = {}
         self._meanwhile: List[Passed] = []
         self._gone: List[Passed] = []
@@ -70,7 +72,8 @@ class IndexDiscovery:
         self._give_up: GoOn = turn_ended
         # how many writes others may have made of documents that aren't judged
         self._unknown = 0
-        # the names by which other writes went that were answered, which may be names of the index; None if they can't be determined
+        # the names by which other writes went that were answered, which may be names of the index; None if
+        # they can't be determined
         self._names: Optional[Set[str]] = set()
         loop.ticks[self._tick] = None
 
@@ -85,8 +88,9 @@ class IndexDiscovery:
         return not self.queue.is_over
 
     def concerns(self, route: Route, content: Optional[bytes]) -> bool:
-        """Whether a request may be for the index. A bulk request that doesn't say its name isn't; one that is packed may be."""
-        if route.kind is not BULK or route.index == self._index or content is None:
+        """Whether a request may be for the index. A bulk request that doesn't say its name isn't; one that is
+        packed may be."""
+        if route.kind is not BULK or route.index_name == self._index or content is None:
             return True
         return self._index.encode() in content or b"\\" in content or content.startswith(PACKED)
 
@@ -95,7 +99,8 @@ class IndexDiscovery:
         self._open[exchange] = passed
 
     def makes(self, making: IndexMakingRequest, give_up: GoOn) -> None:
-        """Heeds that a request which may make the index is passed on, and has the turn. It is given up if it takes too long."""
+        """Heeds that a request which may make the index is passed on, and has the turn. It is given up if it
+        takes too long."""
         self._making, self._made_since, self._give_up = making, self._loop.now, give_up
 
     def has_made(self, is_known: bool) -> None:
@@ -106,8 +111,8 @@ class IndexDiscovery:
         self.queue.end()
 
     def answered(self, exchange: object, go_on: GoOn, is_for_index: bool) -> None:
-        """Heeds that a write was answered, and looks whether the index is there now; then it goes on. If the write isn't for the index, by
-        the names that are known, it doesn't wait long."""
+        """Heeds that a write was answered, and looks whether the index is there now; then it goes on. If the
+        write isn't for the index, by the names that are known, it doesn't wait long."""
         passed = self._open.pop(exchange, None)
         if passed is not None:
             self._remember(passed)
@@ -124,13 +129,20 @@ class IndexDiscovery:
         """Remembers by which name a write went that isn't for the index by the names that are known."""
         if self._names is not None and passed.route.kind is RouteKind.PASS:
             self._names.add(passed.name)
-        if passed.route.kind in JUDGED_BY_BODY or len(self._names or ()) > MOST_GONE or len(passed.target) > LONGEST_GONE:
+        if (
+            passed.route.kind in JUDGED_BY_BODY
+            or len(self._names or ()) > MOST_GONE
+            or len(passed.target) > LONGEST_GONE
+        ):
             self._names = None
 
     def _writes_of(self, shape: Shape) -> int:
-        """How many changes others may have made, none of a document that is judged; 0 if they may have made more, by another name."""
+        """How many changes others may have made, none of a document that is judged; 0 if they may have made
+        more, by another name."""
         has_more_names = len(shape.names.all) > 1
-        if has_more_names and (self._names is None or any(shape.names.may_be_among(it) for it in self._names)):
+        if has_more_names and (
+            self._names is None or any(shape.names.may_be_among(it) for it in self._names)
+        ):
             return 0
         return self._unknown + (self._making.writes if self._making is not None else 0)
 
@@ -173,9 +185,13 @@ class IndexDiscovery:
         if isinstance(told, ClusterError):
             self._judge.end(str(told))
         elif told is not None and self._has_forgotten:
-            self._judge.end("more requests than are remembered were never answered, and may write to the index")
+            self._judge.end(
+                "more requests than are remembered were never answered, and may write to the index"
+            )
         elif told is not None:
-            self._judge.found(told, [*self._open.values(), *self._meanwhile], self._gone, self._writes_of(told))
+            self._judge.found(
+                told, [*self._open.values(), *self._meanwhile], self._gone, self._writes_of(told)
+            )
         self._meanwhile.clear()
         self._go_on()
         self._look()
@@ -200,7 +216,11 @@ class IndexDiscovery:
         """Gives up where the answer takes too long; who doesn't need it goes on before."""
         self._release_others(now)
         if self._asked_at is not None and now > self._asked_at + PATIENCE:
-            self._told(ClusterError(f"the cluster didn't tell within {PATIENCE:.0f} seconds whether the index is there"))
+            self._told(
+                ClusterError(
+                    f"the cluster didn't tell within {PATIENCE:.0f} seconds whether the index is there"
+                )
+            )
         elif self._making is not None and now > self._made_since + PATIENCE:
             self._give_up()
 

@@ -1,8 +1,10 @@
-"""What a recorder that watches writes down: which calls a request makes, what its answer says of them, and what it can't tell.
+"""What a recorder that watches writes down: which calls a request makes, what its answer says of them, and
+what it can't tell.
 
-Nothing is guessed. A call whose reply can't be determined exactly is lost. A document of which some write can't be determined is judged
-no longer: its open calls are lost, later ones aren't recorded, and a list beside the history names it. Where it can't be
-told which documents are written, the recording ends. So what was recorded stays right in each case.
+Nothing is guessed. A call whose reply can't be determined exactly is lost. A document of which some write
+can't be determined is judged no longer: its open calls are lost, later ones aren't recorded, and a list
+beside the history names it. Where it can't be told which documents are written, the recording ends. So what
+was recorded stays right in each case.
 """
 
 from typing import Callable, FrozenSet, Iterable, NamedTuple, Optional
@@ -23,7 +25,8 @@ from .request_recorder import RequestRecorder
 
 
 class Passed(NamedTuple):
-    """A request that was passed on: its method, its target, how that is read, and what the request was taken for."""
+    """A request that was passed on: its method, its target, how that is read, and what the request was taken
+    for."""
 
     method: str
     target: bytes
@@ -32,7 +35,8 @@ class Passed(NamedTuple):
 
     @property
     def name(self) -> str:
-        """The first part of its path, which names the index, or indexes, unless it is one of the cluster's own words."""
+        """The first part of its path, which names the index, or indexes, unless it is one of the cluster's
+        own words."""
         return self.paths.own(parts_of(path_of(self.target.decode("utf-8", "replace")), "replace"))[0]
 
 
@@ -82,31 +86,41 @@ class Judge:
         return PASS if self.writer.has_ended else route_of(method, target, self.documents.names, paths)
 
     def settle(self) -> None:
-        """Has the recording wait: no call has a line until `settled`, and a document that is written meanwhile isn't judged."""
+        """Has the recording wait: no call has a line until `settled`, and a document that is written
+        meanwhile isn't judged."""
         self.documents.is_settling = True
 
     def settled(self) -> None:
         """Begins the recording."""
         self.documents.settled()
 
-    def found(self, shape: Shape, passed: Iterable[Passed], gone: Iterable[Passed] = (), writes: int = 0) -> None:
-        """Takes what the index is that was not there before. If more was written to it than so many writes that are known, only what
-        is seen created is judged.
+    def found(
+        self, shape: Shape, passed: Iterable[Passed], gone: Iterable[Passed] = (), writes: int = 0
+    ) -> None:
+        """Takes what the index is that was not there before. If more was written to it than so many writes
+        that are known, only what is seen created is judged.
 
-        It is told which requests were passed on, and not answered when the index was looked for, and which of those never will be.
-        If one may write to the index by a name that wasn't known, the index isn't looked at yet, or never can be.
+        It is told which requests were passed on, and not answered when the index was looked for, and which of
+        those never will be. If one may write to the index by a name that wasn't known, the index isn't looked
+        at yet, or never can be.
         """
         if any(may_have_written(it, shape) for it in gone):
             self.end("a request that was never answered may write to the index, by a name that wasn't known")
         elif not any(may_have_written(it, shape) for it in passed):
             self.documents.shape, self.documents.names = shape, shape.names
-            self.documents.first = DocumentState.JUDGED if shape.is_empty or 0 < shape.changes <= writes else UNSURE
+            self.documents.first = (
+                DocumentState.JUDGED if shape.is_empty or 0 < shape.changes <= writes else UNSURE
+            )
             self.on_shape(shape)
 
-    def made(self, making: IndexMakingRequest, status: int, content: Optional[bytes], length: Optional[int]) -> bool:
-        """Writes the call of a request that was passed on alone, and what its answer says; nothing else on the index was open.
+    def made(
+        self, making: IndexMakingRequest, status: int, content: Optional[bytes], length: Optional[int]
+    ) -> bool:
+        """Writes the call of a request that was passed on alone, and what its answer says; nothing else on
+        the index was open.
 
-        Tells whether it is known what it wrote. If there is no index, and the request was refused, it wrote nothing.
+        Tells whether it is known what it wrote. If there is no index, and the request was refused, it wrote
+        nothing.
         """
         if self.shape is None and 400 <= status < 500:
             return True
@@ -144,10 +158,15 @@ class Judge:
 
 
 def may_have_written(passed: Passed, shape: Shape) -> bool:
-    """Whether a request that was passed on may have written to the index, unknown by the name that it used."""
+    """Whether a request that was passed on may have written to the index, unknown by the name that it
+    used."""
     if len(shape.names.all) == 1:
         # (the one that was known)
         return False
     method, target, paths, route = passed
     was_passed_by = route.kind is RouteKind.PASS and method not in READS
-    return was_passed_by and route_of(method, target, shape.names, paths).kind not in HARMLESS_KINDS or route.kind in JUDGED_BY_BODY
+    return (
+        was_passed_by
+        and route_of(method, target, shape.names, paths).kind not in HARMLESS_KINDS
+        or route.kind in JUDGED_BY_BODY
+    )

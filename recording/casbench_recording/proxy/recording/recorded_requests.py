@@ -42,7 +42,18 @@ UNKNOWN_REQUESTER = Requester()
 class RequestedCall:
     """A call that a request makes, and how its reply is read."""
 
-    __slots__ = ("id", "op", "parameters", "digest", "document", "call", "requester", "sweeps", "operation", "turn")
+    __slots__ = (
+        "id",
+        "op",
+        "parameters",
+        "digest",
+        "document",
+        "call",
+        "requester",
+        "sweeps",
+        "operation",
+        "turn",
+    )
 
     # of a write whose id comes with the answer: who asks, and how many sweeps there had been when it was made
     requester: "Requester"
@@ -67,13 +78,21 @@ class RequestedCall:
     def is_sure(self) -> bool:
         """Whether the line of a write says all that it depends on, so that a conflict may be recorded."""
         parameters = self.parameters
-        return OF_A_CONDITION.isdisjoint(parameters) or self.operation.condition is not None and OF_A_VERSION.isdisjoint(parameters)
+        return (
+            OF_A_CONDITION.isdisjoint(parameters)
+            or self.operation.condition is not None
+            and OF_A_VERSION.isdisjoint(parameters)
+        )
 
     @property
     def shows_all(self) -> bool:
         """Whether the reply to a get shows the whole source."""
         parameters = self.parameters
-        return not parameters or parameters.get("_source", True) in (True, "true") and HIDES_PARTS.isdisjoint(parameters)
+        return (
+            not parameters
+            or parameters.get("_source", True) in (True, "true")
+            and HIDES_PARTS.isdisjoint(parameters)
+        )
 
 
 class RequestedUpdate(RequestedCall):
@@ -81,7 +100,8 @@ class RequestedUpdate(RequestedCall):
 
     __slots__ = ("is_handed_on", "is_alone", "before")
 
-    # whether each write before it was over and its outcome known, and the greatest pair that one was acknowledged with
+    # whether each write before it was over and its outcome known, and the greatest pair that one was
+    # acknowledged with
     is_alone: bool
     before: Optional[Pair]
 
@@ -92,11 +112,18 @@ class RequestedUpdate(RequestedCall):
 
 
 class RecordedRequest:
-    """A request that is passed on: its kind, its calls, or None for an item that is none of ours, and whether its answer is its end."""
+    """A request that is passed on: its kind, its calls, or None for an item that is none of ours, and whether
+    its answer is its end."""
 
     __slots__ = ("kind", "parts", "is_head", "is_over_at_answer")
 
-    def __init__(self, kind: RouteKind, parts: Sequence[Optional[RequestedCall]], is_head: bool = False, is_over_at_answer: bool = True) -> None:
+    def __init__(
+        self,
+        kind: RouteKind,
+        parts: Sequence[Optional[RequestedCall]],
+        is_head: bool = False,
+        is_over_at_answer: bool = True,
+    ) -> None:
         self.kind = kind
         self.parts = parts
         self.is_head = is_head
@@ -109,7 +136,8 @@ class RecordedRequest:
 
 
 class IndexMakingRequest(RecordedRequest):
-    """A request that may make the index, and is passed on alone: what it asks is told once the index was looked at."""
+    """A request that may make the index, and is passed on alone: what it asks is told once the index was
+    looked at."""
 
     __slots__ = ("route", "method", "content", "requester")
 
@@ -137,22 +165,25 @@ class IndexMakingRequest(RecordedRequest):
 class RecordedBulkRequest(RecordedRequest):
     """A bulk request, whose items are read as they come."""
 
-    __slots__ = ("items", "parameters", "index", "requester", "unnamed")
+    __slots__ = ("items", "parameters", "index_name", "requester", "unnamed")
 
     parts: List[Optional[RequestedCall]]
 
-    def __init__(self, parameters: Mapping[str, str], index: str, requester: Requester, longest: int) -> None:
+    def __init__(
+        self, parameters: Mapping[str, str], index_name: str, requester: Requester, longest: int
+    ) -> None:
         super().__init__(RouteKind.BULK, [])
         self.items = BulkItems(longest)
         self.parameters = parameters
         self.requester = requester
         # the index that the path names
-        self.index = index
+        self.index_name = index_name
         # how many parts are kept whose ids the answer tells
         self.unnamed = 0
 
     def add(self, parts: Sequence[Optional[RequestedCall]], has_room: bool) -> None:
-        """Keeps, of parts whose calls are written, what the answer may tell something of; of those without an id only if there is room."""
+        """Keeps, of parts whose calls are written, what the answer may tell something of; of those without an
+        id only if there is room."""
         for it in parts:
             is_unnamed = it is not None and not it.id and has_room
             self.unnamed += is_unnamed

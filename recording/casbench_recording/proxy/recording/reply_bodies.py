@@ -53,7 +53,8 @@ def true_members(body: JsonObject) -> FrozenSet[str]:
 
 
 def item_status(member: str, told: JsonObject) -> int:
-    """The status of an item of an answer, 0 where there is none. That of a get of several is told by what it found."""
+    """The status of an item of an answer, 0 where there is none. That of a get of several is told by what it
+    found."""
     if member == "items":
         status = told.get("status", 0)
         return int(status) if is_whole(status, 0, 65_535) else 0
@@ -63,7 +64,10 @@ def item_status(member: str, told: JsonObject) -> int:
 
 
 def missing_by_length(shape: Optional[Shape], id: str, length: Optional[int]) -> JsonObject:
-    """What a 404 to a HEAD says: that the document is missing, where the body that it would have is as long as that one says it."""
+    """What a 404 to a HEAD says: that the document is missing, where the body that it would have is as long
+    as that one says it."""
     body: JsonObject = {"_index": shape.name if shape else "", "_id": id, "found": False}
-    texts = [json.dumps(it, separators=(",", ":"), ensure_ascii=False) for it in (body, {**body, "_type": "_doc"})]
+    texts = [
+        json.dumps(it, separators=(",", ":"), ensure_ascii=False) for it in (body, {**body, "_type": "_doc"})
+    ]
     return {"found": False} if length in [len(it.encode()) for it in texts] else {}

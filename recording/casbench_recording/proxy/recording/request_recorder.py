@@ -52,8 +52,11 @@ class RequestRecorder:
         self._documents = documents
         self._writer = documents.writer
 
-    def ask(self, route: Route, method: str, content: Optional[bytes], requester: Requester = UNKNOWN_REQUESTER) -> Optional[RecordedRequest]:
-        """Writes the calls of a client's request, before it is passed on. The content is None where it can't be read."""
+    def ask(
+        self, route: Route, method: str, content: Optional[bytes], requester: Requester = UNKNOWN_REQUESTER
+    ) -> Optional[RecordedRequest]:
+        """Writes the calls of a client's request, before it is passed on. The content is None where it can't
+        be read."""
         try:
             if self._writer.has_ended:
                 return None
@@ -68,10 +71,13 @@ class RequestRecorder:
 
     def ask_in_pieces(self, route: Route, requester: Requester = UNKNOWN_REQUESTER) -> RecordedBulkRequest:
         """Begins with a client's bulk request, whose content comes in pieces."""
-        return RecordedBulkRequest(route.parameters, route.index, requester, MOST_READ)
+        return RecordedBulkRequest(route.parameters, route.index_name, requester, MOST_READ)
 
-    def take_items(self, recorded: RecordedBulkRequest, content: Optional[bytes], is_last: bool, has_room: bool = True) -> None:
-        """Writes the calls of the items that are whole, before they are passed on. The content is None where it can't be read.
+    def take_items(
+        self, recorded: RecordedBulkRequest, content: Optional[bytes], is_last: bool, has_room: bool = True
+    ) -> None:
+        """Writes the calls of the items that are whole, before they are passed on. The content is None where
+        it can't be read.
 
         If there is no room the answer isn't asked for the ids of those that have none.
         """
@@ -86,14 +92,16 @@ class RequestRecorder:
             self._writer.end_by(fault)
 
     def begin_sweep(self, route: Route) -> Optional[RecordedRequest]:
-        """Heeds that a request may change every document that is there, those of now and those that are seen before its answer."""
+        """Heeds that a request may change every document that is there, those of now and those that are seen
+        before its answer."""
         if self._writer.has_ended:
             return None
         self._documents.begin_sweep()
         return RecordedRequest(route.kind, (), is_over_at_answer=not route.op)
 
     def sweeping(self, route: Route) -> Iterator[None]:
-        """Judges those no longer that are there, before the request is passed on, in steps between which others have their turn."""
+        """Judges those no longer that are there, before the request is passed on, in steps between which
+        others have their turn."""
         try:
             yield from self._documents.sweep(f"{route.why} may have changed it")
         except Exception as fault:
@@ -103,9 +111,13 @@ class RequestRecorder:
         """The same of a request that isn't of one kind with most of them."""
         kind = route.kind
         if kind is RouteKind.NEW:
-            return self._made_one(kind, RequestedCall("", route.op, route.parameters, digest_of_text(content)), requester)
+            return self._made_one(
+                kind, RequestedCall("", route.op, route.parameters, digest_of_text(content)), requester
+            )
         if kind is RouteKind.UPDATE:
-            return self._made(kind, [self._update(route.id, route.parameters, object_of(content), True)], requester)
+            return self._made(
+                kind, [self._update(route.id, route.parameters, object_of(content), True)], requester
+            )
         if kind is BULK:
             bulk = self.ask_in_pieces(route, requester)
             self.take_items(bulk, content, True)
@@ -121,13 +133,19 @@ class RequestRecorder:
             self._left_out(route.id, route.why)
             if route.op == "new":
                 self._documents.note_unknown_write("", route.why)
-        elif kind is RouteKind.END or kind is RouteKind.CHECK_BODY and may_write(route.check, content, route.parameters, self._documents.names):
+        elif (
+            kind is RouteKind.END
+            or kind is RouteKind.CHECK_BODY
+            and may_write(route.check, content, route.parameters, self._documents.names)
+        ):
             raise UnknownWrites(route.why)
         return None
 
     # The calls of a request, and their lines
 
-    def _made_one(self, kind: RouteKind, part: RequestedCall, requester: Requester, is_head: bool = False) -> RecordedRequest:
+    def _made_one(
+        self, kind: RouteKind, part: RequestedCall, requester: Requester, is_head: bool = False
+    ) -> RecordedRequest:
         """Writes the call of a request that makes one, before the request is passed on."""
         document = self._document_of(part, requester)
         if document is not None:
@@ -136,7 +154,9 @@ class RequestRecorder:
             writer.write_call(writer.history.of_shard(document.shard), part)
         return RecordedRequest(kind, (part,), is_head)
 
-    def _made(self, kind: RouteKind, parts: List[Optional[RequestedCall]], requester: Requester) -> Optional[RecordedRequest]:
+    def _made(
+        self, kind: RouteKind, parts: List[Optional[RequestedCall]], requester: Requester
+    ) -> Optional[RecordedRequest]:
         """Writes the calls of the parts, all of them before the request is passed on."""
         self._write_parts(parts, requester)
         called = [it if it is not None and it.call is not None else None for it in parts]
@@ -154,7 +174,8 @@ class RequestRecorder:
         self._writer.write_calls(judged)
 
     def write_part(self, part: RequestedCall) -> bool:
-        """Writes the call of a part whose id came with the answer, if its document is judged; returns whether it is."""
+        """Writes the call of a part whose id came with the answer, if its document is judged; returns whether
+        it is."""
         document = self._document_of(part, part.requester)
         if document is None:
             return False
@@ -180,13 +201,16 @@ class RequestRecorder:
         return None
 
     def _is_known(self, part: RequestedCall, shape: Optional[Shape]) -> bool:
-        """Whether the shard of a part is known, in an index that isn't there or has several. A write of which it isn't ends the judgement
-        of its document."""
+        """Whether the shard of a part is known, in an index that isn't there or has several. A write of which
+        it isn't ends the judgement of its document."""
         if shape is not None and not {"routing", "parent"} & set(part.parameters):
             return True
         if part.op != "get":
             why = "it was written before the index was looked at"
-            self._documents.note_unknown_write(part.id, why if shape is None else "it was written with a routing, in an index of several shards")
+            self._documents.note_unknown_write(
+                part.id,
+                why if shape is None else "it was written with a routing, in an index of several shards",
+            )
         return False
 
     def set_operation(self, part: RequestedCall, document: Document, requester: Requester) -> None:
@@ -202,7 +226,9 @@ class RequestRecorder:
             part.turn = document.begins_write(op)
             if op != "delete":
                 number = document.number_to_write(part.digest)
-        part.operation = Operation(op, part.id, number, condition, document.shard, requester.client, requester.node)
+        part.operation = Operation(
+            op, part.id, number, condition, document.shard, requester.client, requester.node
+        )
 
     # What a request says of a document
 
@@ -216,7 +242,9 @@ class RequestRecorder:
         for it in ids:
             self._documents.note_unknown_write(it, why)
 
-    def _update(self, id: str, parameters: Mapping[str, Any], body: Optional[JsonObject], is_handed_on: bool) -> Optional[RequestedCall]:
+    def _update(
+        self, id: str, parameters: Mapping[str, Any], body: Optional[JsonObject], is_handed_on: bool
+    ) -> Optional[RequestedCall]:
         """The call that an update is: a write of a source that nobody knows, where it can't be a delete."""
         if body is None or not OF_A_PARTIAL_UPDATE.issuperset(body):
             self._left_out(id, "it was updated, perhaps by a script")
@@ -224,10 +252,11 @@ class RequestRecorder:
         return RequestedUpdate(id, {"if_seq_no": None, **parameters}, is_handed_on)
 
     def _item(self, item: BulkItem, recorded: RecordedBulkRequest) -> Optional[RequestedCall]:
-        """The call of an item of a bulk request, or None where it is none of the index, or can't be determined."""
+        """The call of an item of a bulk request, or None where it is none of the index, or can't be
+        determined."""
         op, parameters, documents = item.op, {**recorded.parameters, **item.parameters}, self._documents
-        index, id = parameters.get("_index", recorded.index), parameters.get("_id", "")
-        index, id = recorded.index if index is None else index, "" if id is None else id
+        index, id = parameters.get("_index", recorded.index_name), parameters.get("_id", "")
+        index, id = recorded.index_name if index is None else index, "" if id is None else id
         if op not in ("index", "create", "delete", "update") or not isinstance(index, str):
             raise UnknownWrites(f"a bulk request with the action {op[:20]!r}")
         if index not in documents.names.all and not documents.names.may_be_among(index):
@@ -242,7 +271,9 @@ class RequestRecorder:
         if parameters.get("pipeline", "_none") != "_none":
             raise UnknownWrites(f"a bulk request with pipeline={str(parameters['pipeline'])[:200]}")
         if not OF_AN_ITEM.issuperset(parameters):
-            self._left_out(id, f"it was written by a bulk request, with {min(set(parameters) - OF_AN_ITEM)[:200]}")
+            self._left_out(
+                id, f"it was written by a bulk request, with {min(set(parameters) - OF_AN_ITEM)[:200]}"
+            )
             return None
         if op == "update":
             return self._update(id, parameters, object_of(item.source), False)
@@ -257,20 +288,28 @@ class RequestRecorder:
         if not isinstance(places, list):
             places = [{"_id": it} for it in ids] if isinstance(ids, list) else []
         # (those for which there is no room leave what was recorded, and no document is kept of them)
-        room = min((it.room for it in self._writer.history.histories if not it.has_ended), default=MOST_PLACES)
+        room = min(
+            (it.room for it in self._writer.history.histories if not it.has_ended), default=MOST_PLACES
+        )
         for place in places if len(places) <= min(room, MOST_PLACES) else ():
             parameters = {**route.parameters, **place} if isinstance(place, dict) else {}
-            index, id = parameters.get("_index", route.index), parameters.get("_id")
-            if not isinstance(id, str) or not id or index not in names.all or not asks_for_latest(parameters, OF_A_PLACE):
+            index, id = parameters.get("_index", route.index_name), parameters.get("_id")
+            if (
+                not isinstance(id, str)
+                or not id
+                or index not in names.all
+                or not asks_for_latest(parameters, OF_A_PLACE)
+            ):
                 yield None
             else:
-                yield RequestedCall(id, "get", {"routing": index, **parameters} if index in names.routed else parameters)
+                yield RequestedCall(
+                    id, "get", {"routing": index, **parameters} if index in names.routed else parameters
+                )
 
 
 def ids_of(id: str) -> Sequence[str]:
-    """The ids that servers may make of one. Half of a surrogate pair has no bytes of its own: they write another character for it."""
+    """The ids that servers may make of one. Half of a surrogate pair has no bytes of its own: they write
+    another character for it."""
     if length_of(id) or not id:
         return (id,)
     return [HALF.sub(it, id) for it in ("\ufffd", "?")]
-
-

@@ -1,4 +1,5 @@
-"""What the body of a request says of where it writes, if its path doesn't: which indexes it restores or fills, which aliases it changes.
+"""What the body of a request says of where it writes, if its path doesn't: which indexes it restores or
+fills, which aliases it changes.
 
 A body that can't be read, or may be read in two ways, may write anywhere.
 """
@@ -117,19 +118,25 @@ def changes_sources(body: JsonObject, parameters: QueryParameters, names: "Names
 
 
 def is_of_sources(parent: str, key: str) -> bool:
-    """Whether a setting or a part of a mapping says so. A pipeline of searches changes no document, and no get."""
-    is_of_searches = key.endswith("search.default_pipeline") or key == "default_pipeline" and parent.endswith("search")
+    """Whether a setting or a part of a mapping says so. A pipeline of searches changes no document, and no
+    get."""
+    is_of_searches = (
+        key.endswith("search.default_pipeline") or key == "default_pipeline" and parent.endswith("search")
+    )
     return key.endswith(PIPELINES) and not is_of_searches or not OF_SOURCES.isdisjoint(key.split("."))
 
 
 def changes_alias(body: JsonObject, parameters: QueryParameters, names: "Names") -> bool:
     """Whether an action is on an alias of the index, or on an alias that is a name of it."""
     actions = body.get("actions")
-    return any(is_on_alias(it, names) for it in actions) if isinstance(actions, list) else may_name(body, names)
+    return (
+        any(is_on_alias(it, names) for it in actions) if isinstance(actions, list) else may_name(body, names)
+    )
 
 
 def is_on_alias(action: Any, names: "Names") -> bool:
-    """The same of one action. A filter names no index, and what is removed from another index is none of this one."""
+    """The same of one action. A filter names no index, and what is removed from another index is none of this
+    one."""
     described = next(iter(action.values())) if isinstance(action, dict) and len(action) == 1 else None
     if not isinstance(described, dict):
         return may_name(action, names)
@@ -148,14 +155,19 @@ def restores(body: JsonObject, parameters: QueryParameters, names: "Names") -> b
     targets = body.get("indices")
     pattern, replacement = body.get("rename_pattern"), body.get("rename_replacement")
     if (pattern, replacement) != (None, None):
-        is_plain = pattern == WHOLE_NAME and isinstance(replacement, str) and re.fullmatch(r"(?:[^$\\]|\$1(?![0-9]))+", replacement)
+        is_plain = (
+            pattern == WHOLE_NAME
+            and isinstance(replacement, str)
+            and re.fullmatch(r"(?:[^$\\]|\$1(?![0-9]))+", replacement)
+        )
         targets = replacement.replace("$1", "*") if is_plain and isinstance(replacement, str) else None
     brings_aliases = len(names.all) > 1 and body.get("include_aliases") not in (False, "false")
     return not targets or brings_aliases or may_name(targets, names)
 
 
 def deletes(body: JsonObject, parameters: QueryParameters, names: "Names") -> bool:
-    """Whether a statement of SQL may delete from the index. One without a text goes on with an earlier one."""
+    """Whether a statement of SQL may delete from the index. One without a text goes on with an earlier
+    one."""
     query = body.get("query")
     if query is None:
         return False
@@ -189,8 +201,11 @@ def names_it(body: JsonObject, parameters: QueryParameters, names: "Names") -> b
 
 
 def mentions(body: JsonObject, parameters: QueryParameters, names: "Names") -> bool:
-    """Whether a name of the index, or a pattern of it, is a word of a text. What is only tried does nothing."""
-    return parameters.get("dryrun") != "true" and any(is_name(it, names) for text in texts_of(body) for it in WORD.findall(text))
+    """Whether a name of the index, or a pattern of it, is a word of a text. What is only tried does
+    nothing."""
+    return parameters.get("dryrun") != "true" and any(
+        is_name(it, names) for text in texts_of(body) for it in WORD.findall(text)
+    )
 
 
 def is_name(word: str, names: "Names") -> bool:

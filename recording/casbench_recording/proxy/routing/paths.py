@@ -1,7 +1,9 @@
-"""The paths of requests, as OpenSearch reads them, and as it may get them from a server before it that normalises paths.
+"""The paths of requests, as OpenSearch reads them, and as it may get them from a server before it that
+normalises paths.
 
-OpenSearch takes each part of a path by itself, without its percent-encoding: `..` is a name to it, and an encoded slash a letter. A load
-balancer, an ingress or a web server between the proxy and the cluster may resolve `.` and `..`, decode slashes and drop empty parts.
+OpenSearch takes each part of a path by itself, without its percent-encoding: `..` is a name to it, and an
+encoded slash a letter. A load balancer, an ingress or a web server between the proxy and the cluster may
+resolve `.` and `..`, decode slashes and drop empty parts.
 """
 
 import re
@@ -9,7 +11,8 @@ import urllib.parse
 from typing import List, Optional
 
 MAY_CHANGE = re.compile(r"%(?:2e|2f|3f|5c)|\\|/\.{1,2}(?:/|$)", re.IGNORECASE)
-"""What a path has that such a server may change. Empty parts are none of it: what OpenSearch makes of them changes no document."""
+"""What a path has that such a server may change. Empty parts are none of it: what OpenSearch makes of them
+changes no document."""
 
 SEPARATORS = re.compile(r"[/\\]")
 """What such a server may take for the end of a part: some take a backslash for a slash."""
@@ -19,8 +22,10 @@ OF_ONE_DOCUMENT = ("_doc", "_create", "_update", "_source", "_explain", "_termve
 
 
 class Paths:
-    """How the paths of requests lead to the cluster: the parts that stand before those of OpenSearch, and whether all are passed on as they
-    were sent. (Two with the same members are two, so that each is remembered by what it is and not by what it holds.)"""
+    """How the paths of requests lead to the cluster: the parts that stand before those of OpenSearch, and
+    whether all are passed on as they were sent. (Two with the same members are two, so that each is
+    remembered by what it is and not by what it holds.)
+    """
 
     __slots__ = ("_prefix", "are_unchanged")
 
@@ -29,7 +34,8 @@ class Paths:
         self.are_unchanged = are_unchanged
 
     def own(self, parts: List[str]) -> List[str]:
-        """The parts of a path behind those that stand before OpenSearch's; all of them if it doesn't begin so."""
+        """The parts of a path behind those that stand before OpenSearch's; all of them if it doesn't begin
+        so."""
         count = len(self._prefix)
         return parts[count:] or [""] if count and parts[:count] == self._prefix else parts
 
@@ -61,9 +67,14 @@ def has_dots(path: str, faults: str) -> bool:
 
 
 def normalised_parts(path: str, faults: str) -> Optional[List[str]]:
-    """The parts that a path without dots has if it is decoded as a whole; None if that changes nothing before the id of a document."""
+    """The parts that a path without dots has if it is decoded as a whole; None if that changes nothing before
+    the id of a document."""
     sent = path.rstrip("/")[1:].split("/")
-    if len(sent) == 3 and text_of(sent[1], faults) in OF_ONE_DOCUMENT and not MAY_CHANGE.search("/".join(sent[:2])):
+    if (
+        len(sent) == 3
+        and text_of(sent[1], faults) in OF_ONE_DOCUMENT
+        and not MAY_CHANGE.search("/".join(sent[:2]))
+    ):
         return None
     plain, _, _ = text_of(path, faults).partition("?")
     return [it for it in SEPARATORS.split(plain) if it] or [""]

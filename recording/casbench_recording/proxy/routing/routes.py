@@ -1,4 +1,5 @@
-"""What requests ask, as far as their first line tells it: which document of which index, or what else they may change.
+"""What requests ask, as far as their first line tells it: which document of which index, or what else they
+may change.
 
 Requests that write, and of which it isn't known what they write, are never taken for harmless.
 """
@@ -39,22 +40,16 @@ CALL, BULK, SWEEP = RouteKind.CALL, RouteKind.BULK, RouteKind.SWEEP
 
 
 class Route(NamedTuple):
-    """What is asked: for a call its operation, document and words; for several calls the index that the path names; for a look how the
-    body is looked at; for an end the reason."""
+    """What is asked: for a call its operation, document and words; for several calls the index that the path
+    names; for a look how the body is looked at; for an end the reason."""
 
     kind: RouteKind
     op: str = ""
     id: str = ""
     parameters: Mapping[str, str] = {}
-    index: str = ""
+    index_name: str = ""
     why: str = ""
     check: BodyCheck = BodyCheck.NOTHING
-
-
-
-
-
-
 
 
 PASS = Route(RouteKind.PASS)
@@ -79,12 +74,32 @@ PLAIN_QUERY = re.compile(r"\w+=\w*(?:&\w+=\w*)*", re.ASCII)
 """A query in which nothing is encoded."""
 
 
-
 READS = ("GET", "HEAD", "OPTIONS")
 
 HARMLESS_OF_AN_INDEX = {
-    *("_search", "_msearch", "_count", "_refresh", "_flush", "_forcemerge", "_cache", "_validate", "_explain", "_field_caps"),
-    *("_termvectors", "_mtermvectors", "_analyze", "_search_shards", "_rank_eval", "_open", "_close", "_block", "_pit"),
+    *(
+        "_search",
+        "_msearch",
+        "_count",
+        "_refresh",
+        "_flush",
+        "_forcemerge",
+        "_cache",
+        "_validate",
+        "_explain",
+        "_field_caps",
+    ),
+    *(
+        "_termvectors",
+        "_mtermvectors",
+        "_analyze",
+        "_search_shards",
+        "_rank_eval",
+        "_open",
+        "_close",
+        "_block",
+        "_pit",
+    ),
 }
 """First words behind an index of requests that change none of its documents."""
 
@@ -99,37 +114,79 @@ NAMES_AN_ALIAS = ("_alias", "_aliases")
 """First words behind another index of requests that make one more, or give it an alias."""
 
 MEANS_NOTHING = {
-    *("pretty", "human", "error_trace", "filter_path", "format", "timeout", "refresh", "wait_for_active_shards"),
+    *(
+        "pretty",
+        "human",
+        "error_trace",
+        "filter_path",
+        "format",
+        "timeout",
+        "refresh",
+        "wait_for_active_shards",
+    ),
     *("master_timeout", "cluster_manager_timeout", "require_alias", "include_type_name"),
 }
 """Words of a query that don't change what a call means."""
 
 OF_A_KIND = ("_bulk", "_delete_by_query", "_update_by_query", "_mapping", "_mappings")
-"""Last words of a path behind an index and a kind of documents, as older servers take them; to others they are ids."""
+"""Last words of a path behind an index and a kind of documents, as older servers take them; to others they
+are ids."""
 
 
-OF_A_WRITE = MEANS_NOTHING | {"op_type", "if_seq_no", "if_primary_term", "version", "version_type", "routing", "parent", "pipeline"}
-OF_AN_UPDATE = (OF_A_WRITE - {"op_type"}) | {"retry_on_conflict", "_source", "_source_includes", "_source_excludes", "lang"}
+OF_A_WRITE = MEANS_NOTHING | {
+    "op_type",
+    "if_seq_no",
+    "if_primary_term",
+    "version",
+    "version_type",
+    "routing",
+    "parent",
+    "pipeline",
+}
+OF_AN_UPDATE = (OF_A_WRITE - {"op_type"}) | {
+    "retry_on_conflict",
+    "_source",
+    "_source_includes",
+    "_source_excludes",
+    "lang",
+}
 OF_AN_ITEM = {"_index", "_type", "_id", "op_type", "batch_size", *OF_AN_UPDATE}
 """What may stand in the action of a bulk request's item, or in the query of the whole request."""
 
-PARTS_OF_A_SOURCE = {"_source", "_source_includes", "_source_excludes", "_source_include", "_source_exclude", "stored_fields"}
-OF_A_GET = MEANS_NOTHING | PARTS_OF_A_SOURCE | {"version", "version_type", "routing", "parent", "realtime", "preference"}
+PARTS_OF_A_SOURCE = {
+    "_source",
+    "_source_includes",
+    "_source_excludes",
+    "_source_include",
+    "_source_exclude",
+    "stored_fields",
+}
+OF_A_GET = (
+    MEANS_NOTHING
+    | PARTS_OF_A_SOURCE
+    | {"version", "version_type", "routing", "parent", "realtime", "preference"}
+)
 
 
 def route_of(method: str, target: bytes, names: Names, paths: Paths = AS_SENT) -> Route:
     """Reads the first line of a request."""
-    return (remembered_route if len(target) <= LONGEST_REMEMBERED else read_route)(method, target, names, paths)
+    if len(target) <= LONGEST_REMEMBERED:
+        return remembered_route(method, target, names, paths)
+    return read_route(method, target, names, paths)
 
 
 def read_route(method: str, target: bytes, names: Names, paths: Paths) -> Route:
-    """Reads the first line of a request. A write whose target servers read in several ways is none that can be told."""
+    """Reads the first line of a request. A write whose target servers read in several ways is none that can
+    be told."""
     try:
         return route_of_text(method, target.decode("ascii"), names, paths, "strict")
     except UnicodeDecodeError:
         if method in READS:
             return PASS
-    readings = [route_of_text(method, target.decode(it, "replace"), names, paths, "replace") for it in ("latin-1", "utf-8")]
+    readings = [
+        route_of_text(method, target.decode(it, "replace"), names, paths, "replace")
+        for it in ("latin-1", "utf-8")
+    ]
     if readings == [PASS, PASS]:
         return PASS
     path, _, _ = target.partition(b"?")
@@ -148,19 +205,26 @@ def route_of_text(method: str, target: str, names: Names, paths: Paths, faults: 
         return route
     if not has_dots(path, faults):
         normalised = normalised_parts(path, faults)
-        if method in READS or normalised is None or route_of_parts(method, paths.own(normalised), parameters, names) in (PASS, route):
+        if (
+            method in READS
+            or normalised is None
+            or route_of_parts(method, paths.own(normalised), parameters, names) in (PASS, route)
+        ):
             return route
     if method in READS:
         # (it may show another document than the one that it names)
         return PASS
-    return Route(RouteKind.END, why=f"{shown_request(method, path)}, a path that a server on the way may normalise (see --paths-unchanged)")
+    why = "a path that a server on the way may normalise (see --paths-unchanged)"
+    return Route(RouteKind.END, why=f"{shown_request(method, path)}, {why}")
 
 
 def route_of_parts(method: str, texts: List[str], parameters: Dict[str, str], names: Names) -> Route:
     """Reads a request by the parts of its path and the words of its query."""
     first, rest = texts[0], texts[1:]
     if "_bulk" in texts[:-1] and method not in READS:
-        return Route(RouteKind.END, why=f"{shown_request(method, '/'.join(['', *texts]))}, a bulk request in pieces")
+        return Route(
+            RouteKind.END, why=f"{shown_request(method, '/'.join(['', *texts]))}, a bulk request in pieces"
+        )
     if first in names.all:
         return route_on_index(method, first, rest, parameters, names)
     if rest[-1:] in (["_bulk"], ["_mget"]) or first in ("_bulk", "_mget"):
@@ -169,7 +233,11 @@ def route_of_parts(method: str, texts: List[str], parameters: Dict[str, str], na
         return NODES if asks_for_nodes(first, rest) else PASS
     if first.startswith("_") and first != "_all" or not first:
         return route_of_cluster(method, first, rest, parameters, names)
-    return route_of_expression(method, first, rest, parameters) if names.may_be_among(first) else route_on_other(method, first, rest, parameters, names)
+    return (
+        route_of_expression(method, first, rest, parameters)
+        if names.may_be_among(first)
+        else route_on_other(method, first, rest, parameters, names)
+    )
 
 
 def asks_for_nodes(first: str, rest: List[str]) -> bool:
@@ -193,7 +261,9 @@ def parameters_of(query: str, faults: str) -> Dict[str, str]:
     return dict(urllib.parse.parse_qsl(query.replace(";", "&"), keep_blank_values=True, errors=faults))
 
 
-def route_on_index(method: str, name: str, rest: List[str], parameters: Dict[str, str], names: Names) -> Route:
+def route_on_index(
+    method: str, name: str, rest: List[str], parameters: Dict[str, str], names: Names
+) -> Route:
     """Reads a request on the index."""
     if name in names.routed:
         parameters = {"routing": name, **parameters}
@@ -211,12 +281,18 @@ def route_on_index(method: str, name: str, rest: List[str], parameters: Dict[str
     if first == "_doc" and len(rest) == 1 and method == "POST":
         route = route_of_write(RouteKind.NEW, "index", "", parameters)
         # (servers take the id of the query, or make one)
-        return route._replace(op="new", id=parameters["id"]) if route.kind is RouteKind.UNJUDGED and "id" in parameters else route
+        return (
+            route._replace(op="new", id=parameters["id"])
+            if route.kind is RouteKind.UNJUDGED and "id" in parameters
+            else route
+        )
     if first == "_update" and len(rest) == 2 and method == "POST":
         return checked(Route(RouteKind.UPDATE, "index", rest[1], parameters), OF_AN_UPDATE)
     if first in ("_update_by_query", "_delete_by_query"):
         is_answered_at_end = parameters.get("wait_for_completion", "true") == "true"
-        return Route(RouteKind.SWEEP, parameters=parameters, why=request, op="" if is_answered_at_end else "goes on")
+        return Route(
+            RouteKind.SWEEP, parameters=parameters, why=request, op="" if is_answered_at_end else "goes on"
+        )
     if first in OF_SETTINGS:
         return Route(RouteKind.CHECK_BODY, parameters=parameters, check=BodyCheck.SETTINGS, why=request)
     if first in RESIZES and len(rest) == 2 and not names.may_be_among(rest[1]):
@@ -238,13 +314,20 @@ def route_on_document(method: str, endpoint: str, id: str, parameters: Dict[str,
         return route_of_write(RouteKind.CALL, "create" if endpoint == "_create" else "index", id, parameters)
     if method == "DELETE" and endpoint == "_doc":
         return route_of_write(RouteKind.CALL, "delete", id, parameters)
-    return PASS if method in READS else Route(RouteKind.UNJUDGED, id=id, why=f"it was asked for by {method[:20]}")
+    return (
+        PASS
+        if method in READS
+        else Route(RouteKind.UNJUDGED, id=id, why=f"it was asked for by {method[:20]}")
+    )
 
 
 def asks_for_latest(parameters: Mapping[str, object], known: "set[str]") -> bool:
-    """Whether a get has known words alone, and asks any copy, or the primary, for its latest. Another copy that is chosen, or one that isn't
-    asked for its latest, may rightly lag behind."""
-    is_latest = parameters.get("realtime", "true") in (True, "true") and parameters.get("preference", PRIMARY) == PRIMARY
+    """Whether a get has known words alone, and asks any copy, or the primary, for its latest. Another copy
+    that is chosen, or one that isn't asked for its latest, may rightly lag behind."""
+    is_latest = (
+        parameters.get("realtime", "true") in (True, "true")
+        and parameters.get("preference", PRIMARY) == PRIMARY
+    )
     return is_latest and known.issuperset(parameters)
 
 
@@ -259,14 +342,17 @@ def route_of_write(kind: RouteKind, op: str, id: str, parameters: Mapping[str, s
 
 
 def checked(route: Route, known: "set[str]") -> Route:
-    """The route of a write whose words are known ones; of another one nothing can be told. A pipeline may write anything."""
+    """The route of a write whose words are known ones; of another one nothing can be told. A pipeline may
+    write anything."""
     parameters = route.parameters
     if parameters.get("pipeline", "_none") != "_none":
         return Route(RouteKind.END, why=f"a write with pipeline={parameters['pipeline'][:LONGEST_WHY]}")
     if known.issuperset(parameters):
         return route
     strange = min(set(parameters) - known)
-    return Route(RouteKind.UNJUDGED, id=route.id, why=f"it was written with the parameter {strange[:LONGEST_WHY]}")
+    return Route(
+        RouteKind.UNJUDGED, id=route.id, why=f"it was written with the parameter {strange[:LONGEST_WHY]}"
+    )
 
 
 def route_of_several(method: str, first: str, rest: List[str], parameters: Dict[str, str]) -> Route:
@@ -275,23 +361,36 @@ def route_of_several(method: str, first: str, rest: List[str], parameters: Dict[
     index = first if rest else ""
     if last == "_mget":
         is_plain = asks_for_latest(parameters, OF_A_GET) and method in ("GET", "POST")
-        return Route(RouteKind.MULTIPLE_GET, "get", parameters=parameters, index=index) if is_plain else PASS
+        return (
+            Route(RouteKind.MULTIPLE_GET, "get", parameters=parameters, index_name=index)
+            if is_plain
+            else PASS
+        )
     if method not in ("POST", "PUT"):
         return PASS
-    return Route(RouteKind.BULK, parameters=parameters, index=index)
+    return Route(RouteKind.BULK, parameters=parameters, index_name=index)
 
 
-def route_of_cluster(method: str, first: str, rest: List[str], parameters: Dict[str, str], names: Names) -> Route:
+def route_of_cluster(
+    method: str, first: str, rest: List[str], parameters: Dict[str, str], names: Names
+) -> Route:
     """Reads a request that writes something and names no index in its path."""
     check = body_check_of([first, *rest], names)
     request = shown_request(method, "/".join(["", first, *rest]))
     if check is None:
         return Route(RouteKind.END, why=request)
-    return PASS if check is BodyCheck.NOTHING else Route(RouteKind.CHECK_BODY, parameters=parameters, check=check, why=request)
+    return (
+        PASS
+        if check is BodyCheck.NOTHING
+        else Route(RouteKind.CHECK_BODY, parameters=parameters, check=check, why=request)
+    )
 
 
-def route_on_other(method: str, index: str, rest: List[str], parameters: Dict[str, str], names: Names) -> Route:
-    """Reads a request that writes something on another index: it may make one by a name of ours, or give it an alias that is one."""
+def route_on_other(
+    method: str, index: str, rest: List[str], parameters: Dict[str, str], names: Names
+) -> Route:
+    """Reads a request that writes something on another index: it may make one by a name of ours, or give it
+    an alias that is one."""
     word = rest[0] if rest else ""
     if word not in MAKES_ANOTHER and (word not in NAMES_AN_ALIAS or method not in ("PUT", "POST")):
         return PASS

@@ -1,7 +1,8 @@
-"""What a recorder that watches knows of documents: which it may judge, and the numbers that stand for their sources.
+"""What a recorder that watches knows of documents: which it may judge, and the numbers that stand for their
+sources.
 
-A history identifies a version by its pair and by a number `k`. Here `k` is a digest of the source: equal sources have one
-number, whatever the order of their keys, and no source is remembered.
+A history identifies a version by its pair and by a number `k`. Here `k` is a digest of the source: equal
+sources have one number, whatever the order of their keys, and no source is remembered.
 """
 
 import functools
@@ -16,7 +17,8 @@ from casbench_recording.history.writing import Call
 from casbench_recording.proxy.json_bodies import read_json
 
 canonical = json.JSONEncoder(sort_keys=True, separators=(",", ":"), check_circular=False).encode
-"""The text of a source, which is the same for equal ones. (What was read of a text holds nothing that holds it.)"""
+"""The text of a source, which is the same for equal ones. (What was read of a text holds nothing that holds
+it.)"""
 
 MOST_REMEMBERED = 8192
 """Of how many texts the digest is remembered."""
@@ -25,14 +27,15 @@ LONGEST_REMEMBERED = 2048
 """The most bytes of such a text."""
 
 UNKNOWN = 1
-"""The number of all sources of a document that nobody can know; those of sources that are known are greater."""
+"""The number of all sources of a document that nobody can know; those of sources that are known are
+greater."""
 
 BYTES = 8
 """Of how many bytes the number of a source is."""
 
 PAIRS_AT_REST, MOST_PAIRS = 8, 1000
-"""Of how many of the last versions the source is known by the pair at most: of a document none of whose calls is open, and of another. If
-there are more, half as many are kept."""
+"""Of how many of the last versions the source is known by the pair at most: of a document none of whose calls
+is open, and of another. If there are more, half as many are kept."""
 
 NOTHING: Dict[Call, None] = {}
 """The calls of a document that has none. Nothing is put into it."""
@@ -41,8 +44,8 @@ NOTHING: Dict[Call, None] = {}
 class DocumentState(Enum):
     """What is known of the calls on a document.
 
-    All of them are recorded; or all that were seen so far, and it isn't known yet whether the document was there before
-    them; or some are not, and no more will be.
+    All of them are recorded; or all that were seen so far, and it isn't known yet whether the document was
+    there before them; or some are not, and no more will be.
     """
 
     JUDGED = 1
@@ -55,10 +58,13 @@ UNSURE, NOT_JUDGED = DocumentState.UNSURE, DocumentState.NOT_JUDGED
 
 
 class Document:
-    """A document: its calls that are open, the last versions, and which of its writes may have been performed unseen."""
+    """A document: its calls that are open, the last versions, and which of its writes may have been performed
+    unseen."""
 
-    __slots__ = ("id", "shard", "state", "open", "deletes", "_nothing", "_written", "_forgotten", "_unknown")
-    __slots__ += ("turns", "_open_writes", "_doubtful", "_has_lost", "acknowledged")
+    __slots__ = (
+        *("id", "shard", "state", "open", "deletes", "_nothing", "_written", "_forgotten", "_unknown"),
+        *("turns", "_open_writes", "_doubtful", "_has_lost", "acknowledged"),
+    )
 
     def __init__(self, id: str, shard: int, state: DocumentState) -> None:
         self.id = id
@@ -68,14 +74,16 @@ class Document:
         self.open: Dict[Call, None] = NOTHING
         # how many calls were made that may delete the document, and how many writes wrote nothing
         self.deletes = self._nothing = 0
-        # the last versions that a write was answered with, and the greatest pair of one that was forgotten, of a source that nobody knows
+        # the last versions that a write was answered with, and the greatest pair of one that was forgotten,
+        # of a source that nobody knows
         self._written: Tuple[Version, ...] = ()
         self._forgotten: Optional[Pair] = None
-        # how many writes of a source that nobody can know were called and may have been performed, each also twice, under a pair that no
-        # answer shows
+        # how many writes of a source that nobody can know were called and may have been performed, each also
+        # twice, under a pair that no answer shows
         self._unknown = 0
-        # how many writes were called, and how many of them are open; up to which of them one was answered that may have been performed
-        # unseen, 0 if there is none; and whether one is lost that may be performed at any time
+        # how many writes were called, and how many of them are open; up to which of them one was answered
+        # that may have been performed unseen, 0 if there is none; and whether one is lost that may be
+        # performed at any time
         self.turns = self._open_writes = self._doubtful = 0
         self._has_lost = False
         # the greatest pair that a write was acknowledged with
@@ -106,7 +114,8 @@ class Document:
         return turn == self.turns and self.state is DocumentState.JUDGED
 
     def acknowledges(self, turn: int, pair: Pair) -> None:
-        """Notes that a write was acknowledged with this pair. Those that were answered before it was called take none behind it."""
+        """Notes that a write was acknowledged with this pair. Those that were answered before it was called
+        take none behind it."""
         if turn > self._doubtful:
             self._doubtful = 0
         greatest = self.acknowledged
@@ -114,7 +123,8 @@ class Document:
             self.acknowledged = pair
 
     def doubts(self, operation: Operation, is_answered: bool) -> None:
-        """Notes that a write may have been performed unseen. Without an answer, and without a condition, it may be at any later time."""
+        """Notes that a write may have been performed unseen. Without an answer, and without a condition, it
+        may be at any later time."""
         if is_answered or operation.condition is not None:
             self._doubtful = self.turns
         else:
@@ -142,7 +152,8 @@ class Document:
     # The numbers of sources
 
     def number_to_write(self, digest: Optional[int]) -> int:
-        """The number of a source that is written now. Of sources that nobody can know it is one for all of them."""
+        """The number of a source that is written now. Of sources that nobody can know it is one for all of
+        them."""
         if digest is None:
             self._unknown += 1
             return UNKNOWN
@@ -173,8 +184,9 @@ class Document:
     def number_shown(self, pair: Pair, digest: Optional[int], is_whole: bool) -> Optional[int]:
         """The number that a get shows which found this pair; None if it can't be determined.
 
-        If a write of unknown source was answered with the pair it is that one's, whatever is shown; if one may have taken it unseen it
-        can't be determined. If the source isn't shown as a whole it is that of the write which was answered with the pair.
+        If a write of unknown source was answered with the pair it is that one's, whatever is shown; if one
+        may have taken it unseen it can't be determined. If the source isn't shown as a whole it is that of
+        the write which was answered with the pair.
         """
         for version in reversed(self._written):
             if version.pair == pair:
@@ -194,7 +206,8 @@ class Document:
         version, writes = beginning.version, [*beginning.lost, *[it.operation for it in self.open]]
         self._written = (version,) if version is not None and version.value is not None else ()
         self._forgotten = None
-        # (a write that is open, and carried over too, counts twice: then a get of a version that no answer gave is lost, and not guessed)
+        # (a write that is open, and carried over too, counts twice: then a get of a version that no answer
+        # gave is lost, and not guessed)
         self._unknown = sum(it.value == UNKNOWN for it in writes)
 
 
@@ -209,8 +222,8 @@ LEAST = Digest(UNKNOWN + 1)
 
 
 def digest_of(source: Any) -> Optional[Digest]:
-    """The number that equal sources have in common, and others don't, but for one pair of 2 to the power of 64; None of a source that is
-    nested too deep to be compared."""
+    """The number that equal sources have in common, and others don't, but for one pair of 2 to the power of
+    64; None of a source that is nested too deep to be compared."""
     try:
         digest = Digest.from_bytes(blake2b(canonical(source).encode(), digest_size=BYTES).digest(), "big")
     except RecursionError:
@@ -230,7 +243,11 @@ digest_of_short = functools.lru_cache(maxsize=MOST_REMEMBERED)(digest_of_object)
 
 def digest_of_text(text: Optional[bytes]) -> Optional[Digest]:
     """The same, remembered where the text is short: what is written is read again, mostly byte for byte."""
-    return digest_of_short(text) if text is not None and len(text) <= LONGEST_REMEMBERED else digest_of_object(text)
+    return (
+        digest_of_short(text)
+        if text is not None and len(text) <= LONGEST_REMEMBERED
+        else digest_of_object(text)
+    )
 
 
 def object_of(content: Optional[bytes]) -> Optional[Dict[str, Any]]:

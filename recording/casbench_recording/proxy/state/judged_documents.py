@@ -1,4 +1,5 @@
-"""The documents that a recorder which watches has seen: which of them are judged, and from when on others aren't, with the reason."""
+"""The documents that a recorder which watches has seen: which of them are judged, and from when on others
+aren't, with the reason."""
 
 import re
 from typing import FrozenSet, Iterable, Iterator, List, Optional, Sequence, Tuple
@@ -24,7 +25,8 @@ MADE_ID = re.compile(r"[A-Za-z0-9_-]{20}")
 
 
 class JudgedDocuments:
-    """The documents of the index. A document of which some write can't be determined is judged no longer: what is open is lost."""
+    """The documents of the index. A document of which some write can't be determined is judged no longer:
+    what is open is lost."""
 
     def __init__(
         self,
@@ -47,7 +49,8 @@ class JudgedDocuments:
         self._most_kept = most_kept
         # those that aren't judged any more
         self._gone = DroppedIds()
-        # what is known of a document that is seen for the first time, and the documents that are looked at, if not all
+        # what is known of a document that is seen for the first time, and the documents that are looked at,
+        # if not all
         self.first = first
         self.only = only
         # whether the recording waits for writes to be over that were made before it: then no call has a line
@@ -74,7 +77,8 @@ class JudgedDocuments:
         return self.recent.get(id) is not None or id in self._gone
 
     def _give_up(self) -> None:
-        """Judges those no longer that weren't asked for while many others were; one that is asked something stays."""
+        """Judges those no longer that weren't asked for while many others were; one that is asked something
+        stays."""
         given_up, self.recent.given_up = [*self.recent.given_up.values()], {}
         for it in given_up:
             if it.open:
@@ -83,12 +87,18 @@ class JudgedDocuments:
         self._leave([(it, why) for it in given_up if not it.open])
 
     def rest(self, parts: Iterable[Optional[RequestedCall]]) -> None:
-        """Forgets the documents of calls that ended, if nothing was ever seen of them: they come again as ones that are seen first."""
+        """Forgets the documents of calls that ended, if nothing was ever seen of them: they come again as
+        ones that are seen first."""
         if self._endless is None or self.first is not DocumentState.JUDGED:
             return
         for it in parts:
             document = it.document if it is not None else None
-            if document is not None and not document.turns and not document.open and self._endless.forgets(document.id):
+            if (
+                document is not None
+                and not document.turns
+                and not document.open
+                and self._endless.forgets(document.id)
+            ):
                 self.recent.pop(document.id)
 
     def _first_seen(self, id: str) -> Optional[Document]:
@@ -107,13 +117,15 @@ class JudgedDocuments:
         return document if document.state is not NOT_JUDGED else None
 
     def settled(self) -> None:
-        """Begins the recording. A write that is open now and whose id only its answer gives is one from before it."""
+        """Begins the recording. A write that is open now and whose id only its answer gives is one from
+        before it."""
         if self.is_settling:
             self.is_settling = False
             self.sweeps += 1
 
     def note_unknown_write(self, id: str, why: str) -> None:
-        """Heeds that a document is written in a way that can't be determined; where it has no id, one that nobody knows."""
+        """Heeds that a document is written in a way that can't be determined; where it has no id, one that
+        nobody knows."""
         if not id:
             self.unnamed += 1
         elif self.recent.get(id) is not None or self._first_seen(id) is not None:
@@ -141,7 +153,8 @@ class JudgedDocuments:
         self.writer.unjudged.names([(document.id, why) for document, why in documents])
 
     def begin_sweep(self) -> None:
-        """Heeds that a request may change every document that is there, those of now and those that are seen before its answer."""
+        """Heeds that a request may change every document that is there, those of now and those that are seen
+        before its answer."""
         self.sweeps += 1
         self.open_sweeps += 1
 
@@ -161,6 +174,7 @@ class JudgedDocuments:
         return sum(it.state is DocumentState.JUDGED for it in self.recent.values())
 
     def close(self) -> None:
-        """Names the documents that were never seen created, behind the end of the recording: they aren't judged."""
+        """Names the documents that were never seen created, behind the end of the recording: they aren't
+        judged."""
         unsure = [it.id for it in self.recent.values() if it.state is UNSURE]
         self.writer.unjudged.names([(it, "it was never seen created") for it in unsure])

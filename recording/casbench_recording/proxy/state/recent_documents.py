@@ -1,7 +1,9 @@
-"""Which documents a recorder keeps: those that were asked for last, up to a number. Of the others it is known that they aren't judged.
+"""Which documents a recorder keeps: those that were asked for last, up to a number. Of the others it is known
+that they aren't judged.
 
-Documents are kept in two generations, and each that is asked for belongs to the younger one. When that is full the older one has no
-document that was asked for since it was the younger: these are given up, few at a time, and it becomes the older one.
+Documents are kept in two generations, and each that is asked for belongs to the younger one. When that is
+full the older one has no document that was asked for since it was the younger: these are given up, few at a
+time, and it becomes the older one.
 """
 
 import mmap
@@ -23,8 +25,8 @@ PROBES = 4
 
 
 class DroppedIds:
-    """A set of ids, in memory that doesn't grow. It has each that was added, and by chance others too: with ten million ids one of 2,700, with
-    thirty million one of 59."""
+    """A set of ids, in memory that doesn't grow. It has each that was added, and by chance others too: with
+    ten million ids one of 2,700, with thirty million one of 59."""
 
     def __init__(self) -> None:
         # (the system gives a page of it once a bit there is set; a bytearray would take all of it at once)
@@ -40,7 +42,8 @@ class DroppedIds:
 
 
 def bits_of(id: str) -> Iterator[int]:
-    """The bits that an id sets. Who chooses ids can't know them: the hash of a text is another one in each process."""
+    """The bits that an id sets. Who chooses ids can't know them: the hash of a text is another one in each
+    process."""
     number = hash(id) % (1 << 64)
     first, step = number >> 32, number & 0xFFFF_FFFF | 1
     return ((first + at * step * 0x9E37_79B1) >> 2 & (1 << BITS) - 1 for at in range(1, PROBES + 1))

@@ -1,4 +1,5 @@
-"""The list of what a recorder that watches doesn't judge: documents, each with the reason, and why a recording ended early."""
+"""The list of what a recorder that watches doesn't judge: documents, each with the reason, and why a
+recording ended early."""
 
 import contextlib
 import json
@@ -16,8 +17,10 @@ MOST_LISTED = 32 * 1024 * 1024
 
 
 class UnjudgedList:
-    """A file beside the history, with a line for each document that isn't judged, from then on or at all; one with how many more there are,
-    if the list is full; and a last one with how many calls were left out. Without any document there is no file."""
+    """A file beside the history, with a line for each document that isn't judged, from then on or at all; one
+    with how many more there are, if the list is full; and a last one with how many calls were left out.
+    Without any document there is no file.
+    """
 
     def __init__(self, history: str) -> None:
         self.path = f"{history}.not-judged"
@@ -52,7 +55,8 @@ class UnjudgedList:
         self._write([json.dumps({"ended": True, "why": why})])
 
     def _write(self, lines: List[str]) -> None:
-        """Puts lines at the end of the file. A disk that is full keeps nobody from going on: all is told at the end too."""
+        """Puts lines at the end of the file. A disk that is full keeps nobody from going on: all is told at
+        the end too."""
         if not lines:
             return
         data = "".join(f"{it}\n" for it in lines).encode()
@@ -62,7 +66,8 @@ class UnjudgedList:
             self._file.write(data)
 
     def close(self, left_out: int = 0) -> None:
-        """Closes the file, if there is one, behind the numbers of documents that it doesn't list, and of calls that were left out."""
+        """Closes the file, if there is one, behind the numbers of documents that it doesn't list, and of
+        calls that were left out."""
         if self._unlisted:
             self._write([json.dumps({"documents": self._unlisted})])
         if self.count and left_out:
