@@ -1,4 +1,4 @@
-"""Builds the package's wheel, for pip, with the standard library alone."""
+"""A build backend for pip that builds the wheel with the standard library alone."""
 
 import base64
 import hashlib
@@ -28,22 +28,21 @@ Tag: py3-none-any
 
 
 def is_command(file: pathlib.Path) -> bool:
-    """Whether a file of the package has a command: a module with a function `main`, or a package that runs as
-    a module."""
+    """Returns whether a file is that of a command: a top-level module with a function `main`, or a
+    `__main__.py`."""
     has_main = re.search(r"^def main\(", file.read_text(encoding="utf-8"), re.MULTILINE) is not None
     return file.name == "__main__.py" or has_main and file.parent.name == PACKAGE
 
 
 def entry_points(files: Sequence[pathlib.Path]) -> str:
-    """The commands that pip installs: each module or package that has one, such as `stand_in`, as
-    `casbench-stand-in`."""
+    """Returns the commands that pip installs: `casbench-stand-in` for the package `stand_in`."""
     names = sorted(it.parent.name if it.name == "__main__.py" else it.stem for it in files if is_command(it))
     rows = (f"casbench-{it.replace('_', '-')} = {PACKAGE}.{it}:main\n" for it in names)
     return "[console_scripts]\n" + "".join(rows)
 
 
 def contents() -> Dict[str, bytes]:
-    """What the wheel has, but for its list of it."""
+    """Returns the files of the wheel, without the list of them."""
     files = sorted(it for it in (HERE / PACKAGE).rglob("*") if it.suffix == ".py" or it.name == "py.typed")
     found = {it.relative_to(HERE).as_posix(): it.read_bytes() for it in files}
     metadata = {"METADATA": METADATA, "WHEEL": WHEEL, "entry_points.txt": entry_points(files)}
@@ -51,7 +50,7 @@ def contents() -> Dict[str, bytes]:
 
 
 def row_of(name: str, content: bytes) -> str:
-    """The row of a file in the list."""
+    """Returns the row of a file in the list."""
     digest = base64.urlsafe_b64encode(hashlib.sha256(content).digest()).rstrip(b"=").decode()
     return f"{name},sha256={digest},{len(content)}\n"
 
@@ -61,7 +60,7 @@ def build_wheel(
     config_settings: Optional[Dict[str, Any]] = None,
     metadata_directory: Optional[str] = None,
 ) -> str:
-    """Writes the wheel into the folder; gives its name."""
+    """Writes the wheel into the directory; returns its name."""
     name, files = f"{PACKAGE}-{VERSION}-py3-none-any.whl", contents()
     rows: List[str] = [row_of(*it) for it in files.items()] + [f"{FOLDER}/RECORD,,\n"]
     with zipfile.ZipFile(os.path.join(wheel_directory, name), "w", zipfile.ZIP_DEFLATED) as wheel:

@@ -168,7 +168,7 @@ class Streams(LoopTest):
     def test_a_fault_of_a_user_ends_its_connection_alone(self):
         (taker, other), (second, another) = self.pair(), self.pair()
         taker.received = mock.Mock(side_effect=ValueError("a fault of the test"))
-        with mock.patch("casbench_recording.console.tell") as tell:
+        with mock.patch("casbench_recording.console.report") as tell:
             other.sendall(b"x")
             self.until(lambda: taker.heard == ["lost"])
             self.loop.call(lambda: 1 // 0)
@@ -230,7 +230,7 @@ class Listening(LoopTest):
 
     def test_a_connection_that_nobody_can_use_is_closed(self):
         (listener,) = self.make(lambda: self.loop.listen("127.0.0.1", 0, mock.Mock(side_effect=ValueError("a fault of the test"))))
-        with mock.patch("casbench_recording.console.tell") as tell:
+        with mock.patch("casbench_recording.console.report") as tell:
             for _ in range(2):
                 with socket.create_connection(("127.0.0.1", listener.port), timeout=30) as connection:
                     self.assertEqual(connection.recv(1), b"")

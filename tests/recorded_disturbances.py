@@ -29,8 +29,8 @@ LATE = """
 import time
 from casbench_recording.proxy import command
 
-tell = command.tell
-command.tell = lambda *arguments, **more: time.sleep(0.5) or tell(*arguments, **more)
+report = command.report
+command.report = lambda *arguments, **more: time.sleep(0.5) or report(*arguments, **more)
 command.main()
 """
 
@@ -167,14 +167,14 @@ class Plans(unittest.TestCase):
         rows = [
             ("", "it has no line such as"),
             ("# after 1 s: x", "it has no line such as"),
-            ("after 1 s", "line 1 is none of"),
-            ("after x s: y", "line 1 is none of"),
-            ("after 1 m: y", "line 1 is none of"),
-            ("\nfor 1 s: x", "line 2 stands before each"),
-            ("after 1 s: x\nfor 1 s", "line 2 is none of"),
-            ("after 1 s: x\nevery 9 s: y", "line 2 is none of"),
-            ("after 1 s: x\nfor 1 s: y\nfor 1 s: y", "line 3 says `for` twice"),
-            ("after 1 s: x\nevery 0 s", "line 2 says"),
+            ("after 1 s", "line 1 isn't one of"),
+            ("after x s: y", "line 1 isn't one of"),
+            ("after 1 m: y", "line 1 isn't one of"),
+            ("\nfor 1 s: x", "line 2 comes before any"),
+            ("after 1 s: x\nfor 1 s", "line 2 isn't one of"),
+            ("after 1 s: x\nevery 9 s: y", "line 2 isn't one of"),
+            ("after 1 s: x\nfor 1 s: y\nfor 1 s: y", "line 3 repeats `for` for one disturbance"),
+            ("after 1 s: x\nevery 0 s", "line 2 repeats `every`"),
             ("after 1 s: x\nfor 5 s: y\nevery 5 s", "`x` begins again before it has ended"),
         ]
         for text, why in rows:
@@ -288,7 +288,7 @@ class Disturbed(LinesTest):
         words = ["record", "http://127.0.0.1:9", "carts", self.file, "--disturb", self.plan("after 1 s")]
         ran = subprocess.run([sys.executable, "-m", "casbench_recording." + words[0], *words[1:]], env=environment(), capture_output=True, text=True)
         self.assertEqual(ran.returncode, 2)
-        self.assertIn("plan: line 1 is none of `after N s: COMMAND`", ran.stderr)
+        self.assertIn("plan: line 1 isn't one of `after N s: COMMAND`", ran.stderr)
 
 
 if __name__ == "__main__":

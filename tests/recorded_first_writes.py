@@ -126,7 +126,7 @@ class FirstWrites(AttackTest):
             said = proxy.ended()
         self.assertEqual(statuses, [502, 201, 201])
         self.assertIn("judged: 2 documents, 2 calls; not judged: 1 document, 1 call", said)
-        self.assertIn("  first: it was written before the index was looked at", said)
+        self.assertIn("  first: it was written before the index was inspected", said)
         self.assertEqual(self.check(), "yes docs=2 calls=2 left_out=0")
 
     def test_a_first_write_that_is_not_answered_holds_up_nobody_for_good(self):
@@ -148,7 +148,7 @@ class FirstWrites(AttackTest):
             self.assertEqual(first.heard()[0], 201)
             said = proxy.ended()
         self.assertIn("judged: 1 document, 1 call; not judged: 1 document, 1 call", said)
-        self.assertIn("  first: it was written before the index was looked at", said)
+        self.assertIn("  first: it was written before the index was inspected", said)
         self.assertEqual(self.check(), "yes docs=1 calls=1 left_out=0")
 
     def test_a_first_write_that_is_refused_is_no_fault_of_its_document(self):
@@ -176,7 +176,7 @@ class FirstWrites(AttackTest):
             cluster.answer = lambda head, body: shown
             self.assertEqual(client.ask(request_of("GET", "/carts/_doc/old"))[0], 200)
             said = proxy.ended()
-        self.assertIn("  old: it was there before", said)
+        self.assertIn("  old: it existed before", said)
         self.assertRegex(self.check(), "^yes ")
 
 

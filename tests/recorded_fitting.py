@@ -85,13 +85,13 @@ class Nodes(unittest.TestCase):
     def test_faults(self):
         """They fail the inspection: a cluster of several nodes isn't taken for one."""
         for answer, fault in (
-            (None, "no answer came: timed out"),
-            ((401, {"error": "x"}), "refuses who asks"),
-            ((408, {"number_of_nodes": 3}), "answered with HTTP 408"),
-            ((429, {"error": "x"}), "answered with HTTP 429"),
-            ((503, {"error": "x"}), "answered with HTTP 503"),
-            ((200, {"status": "green"}), "not what OpenSearch tells"),
-            ((200, {"number_of_nodes": "many"}), "not what OpenSearch tells"),
+            (None, "didn't answer .*: timed out"),
+            ((401, {"error": "x"}), "refuses the credentials"),
+            ((408, {"number_of_nodes": 3}), "answered GET .* with HTTP 408"),
+            ((429, {"error": "x"}), "answered GET .* with HTTP 429"),
+            ((503, {"error": "x"}), "answered GET .* with HTTP 503"),
+            ((200, {"status": "green"}), "isn't that of OpenSearch"),
+            ((200, {"number_of_nodes": "many"}), "isn't that of OpenSearch"),
         ):
             with self.subTest(answer), self.assertRaisesRegex(ClusterError, fault):
                 Inspector(HealthAnswer(answer)).look("carts")
@@ -188,7 +188,7 @@ class Recorders(WatchTest):
             with self.subTest(words), contextlib.redirect_stderr(io.StringIO()) as errors:
                 with contextlib.suppress(SystemExit):
                     record.parse_arguments(words)
-                self.assertEqual(f"over {calls} calls, the most of one history" in errors.getvalue(), is_refused)
+                self.assertEqual(f"over {calls} calls, the maximum of one history" in errors.getvalue(), is_refused)
 
 
 if __name__ == "__main__":

@@ -150,7 +150,7 @@ class Connections(FolderTest):
     def test_who_is_not_there_is_not_asked(self):
         with socket.create_server(("127.0.0.1", 0)) as listener:
             url = f"http://127.0.0.1:{listener.getsockname()[1]}"
-        self.assertRaisesRegex(ClusterError, "nobody answers at 127.0.0.1", connection_to(url).open, 0)
+        self.assertRaisesRegex(ClusterError, "can't connect to 127.0.0.1", connection_to(url).open, 0)
 
 
 if __name__ == "__main__":

@@ -49,7 +49,7 @@ class GivenUp(ProxyTest):
         self.assertEqual(asker.ask("GET", "/carts/_doc/d0")[0], 200)
         self.assertEqual(asker.ask("PUT", "/carts/_doc/d0", {})[0], 200)
         printed = proxy.ended()
-        self.assertIn("  d0: it was not asked for while 10 others were", printed)
+        self.assertIn("  d0: it was not used while 10 others were", printed)
         with open(f"{self.file}.not-judged", encoding="utf-8") as lines:
             named = {it.get("id") for it in map(json.loads, lines)}
         self.assertIn("d50", named)

@@ -317,7 +317,7 @@ class Recorders(FolderTest):
             words = [sys.executable, "-m", "casbench_recording.record", other.url, "shop", self.file, "--gets", "primary"]
             ran = subprocess.run(words, env=environment(), capture_output=True, text=True, timeout=60)
         self.assertEqual((ran.returncode, os.path.exists(self.file)), (1, False))
-        self.assertIn("doesn't take gets with preference=_primary (HTTP 400)", ran.stderr)
+        self.assertIn("doesn't accept gets with preference=_primary (HTTP 400)", ran.stderr)
 
 
 class Primary(JudgeTest):

@@ -179,7 +179,7 @@ class Arguments(FolderTest):
         return ran.returncode, ran.stderr.strip().splitlines()[-1]
 
     def test_each_gets_a_sentence(self):
-        several = "it names several addresses, and one is expected"
+        several = "it has several URLs, and one is expected"
         url, index = "http://127.0.0.1:9200", ["--index", "carts", "out"]
         rows = [
             ("split", [], 2, "split.py: error: the following arguments are required: HISTORY, FOLDER"),
@@ -188,10 +188,10 @@ class Arguments(FolderTest):
             ("split", [self.folder, "parts"], 1, f"split_by_shard.py: {self.folder}: Is a directory"),
             ("proxy", ["--cluster", f"{url},http://127.0.0.1:9201", *index], 2, f"proxy.py: error: argument --cluster: {several}"),
             ("proxy", ["--cluster", "http://127.0.0.1:99999", *index], 2, "proxy.py: error: argument --cluster: a port is a number from 1 to 65535"),
-            ("proxy", ["--cluster", "127.0.0.1:9200", *index], 2, "proxy.py: error: argument --cluster: it is no address such as https://host:9200"),
-            ("proxy", ["--cluster", "ftp://127.0.0.1:9200", *index], 2, "proxy.py: error: argument --cluster: it is no address such as https://host:9200"),
-            ("proxy", ["--cluster", url, "--node", url, *index], 2, "proxy.py: error: argument --node: it is nothing such as 127.0.0.1:9202=http://node-2:9200"),
-            ("proxy", ["--cluster", url, "--node", f"9202={url}", *index], 2, "proxy.py: error: argument --node: it is no address such as 127.0.0.1:9201"),
+            ("proxy", ["--cluster", "127.0.0.1:9200", *index], 2, "proxy.py: error: argument --cluster: it isn't a URL such as https://host:9200"),
+            ("proxy", ["--cluster", "ftp://127.0.0.1:9200", *index], 2, "proxy.py: error: argument --cluster: it isn't a URL such as https://host:9200"),
+            ("proxy", ["--cluster", url, "--node", url, *index], 2, "proxy.py: error: argument --node: it isn't like 127.0.0.1:9202=http://node-2:9200"),
+            ("proxy", ["--cluster", url, "--node", f"9202={url}", *index], 2, "proxy.py: error: argument --node: it isn't an address such as 127.0.0.1:9201"),
             ("record", ["http://127.0.0.1:http", "carts", "out"], 2, "record.py: error: argument URL[,URL..]: a port is a number from 1 to 65535"),
             ("record", [f"{url} {url}", "carts", "out"], 2, f"record.py: error: argument URL[,URL..]: {several}"),
         ]

@@ -683,7 +683,7 @@ class NotJudged(JudgeTest):
                 self.talk(judge, ("GET /carts/_doc/e", None, missing("e")))
             self.answer(judge, get, missing())
             self.assertEqual([it for it in self.ended(judge) if it[2:5] != "get"], ["0 lost", "1 lost"][: at + 1])
-            self.assertEqual(self.names(), {"ended": "a fault of the recorder: KeyError('x')"})
+            self.assertEqual(self.names(), {"ended": "an internal error of the recorder: KeyError('x')"})
             self.tidy()
 
     def test_what_comes_after_the_end(self):
@@ -806,7 +806,7 @@ class NotEmpty(JudgeTest):
             judge = self.judge(first=DocumentState.UNSURE)
             self.talk(judge, turn, ("GET /carts/_doc/d", None, found(6, {})))
             self.assertEqual(self.ended(judge)[1:], ["0 lost"])
-            self.assertEqual(self.names(), {"d": "it was there before"})
+            self.assertEqual(self.names(), {"d": "it existed before"})
             self.tidy()
 
     def test_two_that_race_to_create(self):
@@ -842,7 +842,7 @@ class NotEmpty(JudgeTest):
             judge.found(Shape("carts-1", Names(["carts", "carts-1"], []), 1, 1, is_empty), [])
         self.talk(judge, ("GET /carts/_doc/d", None, found(0, {})), ("PUT /carts-1/_doc/e", {}, written(1, id="e", _index="carts-1")))
         self.assertEqual(self.ended(judge), ["0 index e k=2", "0 201 created 1/1"])
-        self.assertEqual(self.names(), {"d": "it was written before the index was looked at"})
+        self.assertEqual(self.names(), {"d": "it was written before the index was inspected"})
 
 
     def test_an_index_that_is_found_while_others_write(self):
@@ -895,10 +895,10 @@ class Inspections(JudgeTest):
     def test_indexes_that_can_not_be_judged(self):
         refused = [({"settings": {"index": {"default_pipeline": "p"}}}, (), "default_pipeline")]
         refused += [({"settings": {"final_pipeline": "p"}}, (), "final_pipeline")]
-        refused += [({"mappings": {"_source": {"enabled": False}}}, (), "whole sources"), ({"settings": {"knn": "true"}}, (), "whole sources")]
+        refused += [({"mappings": {"_source": {"enabled": False}}}, (), "complete sources"), ({"settings": {"knn": "true"}}, (), "complete sources")]
         refused += [({"aliases": {"shop": {"filter": {"x": 1}}}}, (), "filter"), ({}, [("/carts", {"a": {}, "b": {}})], "names 2 indexes")]
         wrong = [("/carts/_search_shards", {"shards": [[{"shard": 7}]]})]
-        refused += [({"settings": {"number_of_shards": 2}}, wrong, "are not reckoned"), ({}, [("/carts", {"carts": {}})], "not what OpenSearch tells")]
+        refused += [({"settings": {"number_of_shards": 2}}, wrong, "aren't computed"), ({}, [("/carts", {"carts": {}})], "isn't that of OpenSearch")]
         for asked, given, why in refused:
             self.assertRaisesRegex(ClusterError, why, self.inspect, asked, given)
 

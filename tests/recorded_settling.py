@@ -101,7 +101,7 @@ class InFlight(ProxyTest):
             return second.ended()
 
     def test_it_is_waited_for(self):
-        self.assertIn("  late: it was there before", self.recorded(2))
+        self.assertIn("  late: it existed before", self.recorded(2))
         self.assertEqual({it["id"] for it in self.lines() if it["e"] == "call"}, {"late", "new"})
         for options in ((), ("--profile", "opensearch")):
             self.assertRegex(self.check(*options), r"\Ayes docs=2 calls=2 ")
@@ -196,9 +196,9 @@ class Judged(JudgeTest):
         ids = [it["id"] for it in listed if "id" in it]
         self.assertEqual(ids, [f"d{number}" for number in range(len(ids))])
         self.assertEqual(listed[len(ids) :], [{"documents": 100 - len(ids)}])
-        self.assertIn(f"100 documents are not judged, from some moment on or at all ({self.file}.not-judged):", judge.unjudged.told())
+        self.assertIn(f"100 documents are not judged, from some moment on or at all ({self.file}.not-judged):", judge.unjudged.report())
         with mock.patch("builtins.print") as printed:
-            watch.tell_unjudged(self.file)
+            watch.report_unjudged(self.file)
         self.assertEqual(printed.call_args.args[0], f"not judged: 100 documents, listed in {self.file}.not-judged")
 
 

@@ -219,7 +219,7 @@ class OneHistory(WatchTest):
             with self.subTest(name):
                 status, printed, fault = self.ended(self.watched("--every", "60", program=program))
                 self.assertEqual((status, printed), (4, ""))
-                self.assertRegex(fault, rf"\Acasbench_recording\.watch: {program} (can't be run: |ended with |says of a text ).*\n\Z")
+                self.assertRegex(fault, rf"\Acasbench_recording\.watch: {program} (can't be run: |ended with |answers an empty text with ).*\n\Z")
 
     def test_a_program_that_vanishes(self):
         """What was checked before doesn't stand for what came later."""
@@ -455,7 +455,7 @@ class Readings(unittest.TestCase):
             with self.subTest(more), contextlib.redirect_stderr(io.StringIO()) as told:
                 if more:
                     self.assertRaises(SystemExit, self.RECORDERS["record"], words)
-                    self.assertIn(f"over {calls} calls, the most of one history", told.getvalue())
+                    self.assertIn(f"over {calls} calls, the maximum of one history", told.getvalue())
                 else:
                     self.assertEqual(self.RECORDERS["record"](words).reading.most_events, 2 * calls)
 

@@ -109,7 +109,7 @@ class Beside(WatchTest):
                 first = self.watch_of(proxy.process)
                 os.kill(first, sent)
                 line = proxy.errors.readline()
-                wanted = f"the watch was killed by signal {int(sent)}: the recording goes on, and the watch is started again in 1 s"
+                wanted = f"the watch was killed by signal {int(sent)}: the recording goes on, and the watch is restarted in 1 s"
                 self.assertEqual(line, f"casbench_recording.proxy: {wanted}\n")
                 self.load(proxy, f"{sent.name}.ndjson")
                 printed, _ = proxy.outputs()

@@ -143,7 +143,7 @@ class Rights(AttackTest):
                     self.refused(path, lacks, shards="2")
 
     def test_who_is_not_known(self):
-        self.refused("/carts", r"the cluster refuses who asks \(HTTP 401\)", status=401)
+        self.refused("/carts", r"the cluster refuses the credentials \(HTTP 401\)", status=401)
 
 
 class Encrypted(Cluster):
@@ -195,9 +195,9 @@ class Addresses(AttackTest):
                 self.assertIn("recorded 1 call ", proxy.ended())
             self.tidy()
             with self.proxy(cluster.url, "--ca-file", CERTIFICATE) as proxy:
-                self.assertRegex(proxy.url, "no answer came|nobody answers")
+                self.assertRegex(proxy.url, "didn't answer|can't connect")
             with self.proxy(cluster.url, "--client-cert", __file__) as proxy:
-                self.assertIn("holds no certificate with its key", proxy.url)
+                self.assertIn("has no certificate with its key", proxy.url)
             self.tidy()
             with self.proxy(cluster.url, "--ca-file", CERTIFICATE, *self.separate_files()) as proxy, self.client(proxy) as client:
                 self.assertEqual(client.ask(request_of("GET", "/carts/_doc/d"))[0], 200)
@@ -244,7 +244,7 @@ class Addresses(AttackTest):
         began = time.monotonic()
         with Late() as cluster:
             with self.proxy(cluster.url, "--patience", "0") as proxy:
-                self.assertIn("nobody answers", proxy.url)
+                self.assertIn("can't connect", proxy.url)
             self.assertLess(time.monotonic() - began, 5)
             # (after the five seconds for which it is waited for without the option)
             threading.Timer(6, cluster.begin).start()

@@ -245,7 +245,7 @@ class Command(ProgramTest):
     def test_nothing_to_cut_down(self):
         for text, answer in ((OTHER, "yes docs=1 calls=1 left_out=0"), ("{}", "refused line=1 cause=shape")):
             with self.subTest(answer):
-                why = f"shrink.py: it gets {answer}, so there is nothing to cut down\n"
+                why = f"shrink.py: it gets {answer}, so there is nothing to reduce\n"
                 self.assertEqual(command(self.program, text), (1, "", why))
 
     def test_bad_witness(self):
@@ -260,13 +260,13 @@ class Command(ProgramTest):
                 ran = subprocess.run([*words, option, witness], capture_output=True, text=True, env=environment())
                 ends.append((ran.returncode, ran.stdout, ran.stderr.splitlines()[-1].partition(": ")[2]))
         is_not_valid = "the witness gets broken doc=0 cause=doc-missing"
-        is_not_named = "error: --few-witness is a part of the witness that --witness names"
+        is_not_named = "error: --few-witness needs --witness"
         self.assertEqual(ends, [(1, "", is_not_valid), (2, "", is_not_named)])
 
     def test_options(self):
         """An option that comes twice, and a value that it doesn't have."""
         for options, why in (
-            (("--profile", "strict", "--profile", "strict"), "argument --profile: it comes twice"),
+            (("--profile", "strict", "--profile", "strict"), "argument --profile: it may be given only once"),
             (("--failed", "void"), "argument --failed: invalid choice: 'void' (choose from 'lost', 'trusted')"),
         ):
             with self.subTest(options=options):

@@ -426,7 +426,7 @@ class Explaining(ProgramTest):
     def test_options(self):
         """An option that comes twice, and a value that it doesn't have."""
         for words, why in (
-            (["--gets", "any", "--gets", "last"], "argument --gets: it comes twice"),
+            (["--gets", "any", "--gets", "last"], "argument --gets: it may be given only once"),
             (["--writes", "twice"], "argument --writes: invalid choice: 'twice' (choose from 'once', 'repeated')"),
         ):
             with self.subTest(words):

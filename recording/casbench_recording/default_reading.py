@@ -1,4 +1,4 @@
-"""Which reading fits an index, by the copies that the cluster describes, and how that is reported to the
+"""Chooses the reading that fits an index, by its replicas and the number of nodes, and reports it to the
 operator."""
 
 from typing import Callable, Optional
@@ -11,16 +11,16 @@ from .index_inspection import Shape
 
 
 def reading_that_fits(shape: Shape, served: int) -> Reading:
-    """The reading that fits an index whose clients are served by so many nodes.
+    """Returns the reading that fits an index, if the proxy or the load uses `served` nodes.
 
-    With replicas any copy may answer a get, and another one be promoted; between several nodes a write may be
-    sent again. One copy on one node promises what a strict check asks.
+    With replicas any copy may answer a get, and another copy may be promoted; between several nodes a write
+    may be sent again. A single copy on a single node promises what a strict check asks.
     """
     return OPENSEARCH if shape.has_replicas or max(shape.nodes, served) > 1 else STRICT
 
 
 def reason_of(shape: Shape, served: int) -> str:
-    """Why the profile of OpenSearch fits an index, in words."""
+    """Returns why the OpenSearch profile fits an index, in words."""
     if shape.has_replicas:
         copies = f"{shape.replicas} replica{'' if shape.replicas == 1 else 's'}"
         return f"the index {shape.name} has {copies}, with {shape.replication.lower()} replication"
@@ -28,14 +28,14 @@ def reason_of(shape: Shape, served: int) -> str:
 
 
 def check_of(out: str, history: Histories) -> str:
-    """The command that checks a recording with the profile of OpenSearch."""
+    """Returns the command that checks a recording with the OpenSearch profile."""
     files = f"{out}/*.ndjson" if isinstance(history, (Continuing, Parts)) else out
     return f"casbench check --profile {Profile.OPENSEARCH.value} {files}"
 
 
 class DefaultReading:
-    """Which check fits a recording. It is reported once the index is known; without an option of its own it
-    is the reading of the recording and of the watch."""
+    """The reading that fits the index of a recording. It is reported once the index is known. If no option
+    names a reading, the recording and its watch use it."""
 
     def __init__(self, out: str, history: Histories, served: int, is_named: bool) -> None:
         self._command = check_of(out, history)
@@ -43,29 +43,30 @@ class DefaultReading:
         self._served = served
         self._is_named = is_named
         self._fits_profile = False
-        # is called with the reading of the recording, where that isn't the one it was begun with
+        # called with the reading of the recording, if it differs from the first one
         self.on_reading: Callable[[Reading], object] = lambda reading: None
 
-    def take(self, shape: Shape, tell: Callable[[str], object]) -> None:
-        """Takes what the index is, before its first call, and reports which check fits unless that is the one
-        without options."""
+    def take(self, shape: Shape, report: Callable[[str], object]) -> None:
+        """Takes the description of the index, before its first call. Reports which check fits, unless it is
+        the strict one."""
         if reading_that_fits(shape, self._served) == OPENSEARCH:
-            self._take(reason_of(shape, self._served), tell)
+            self._take(reason_of(shape, self._served), report)
 
-    def take_unknown(self, why: str, tell: Callable[[str], object]) -> None:
-        """Takes it that nobody knows what the index is, for a reason: then that check fits which accuses
+    def take_unknown(self, why: str, report: Callable[[str], object]) -> None:
+        """Takes that the index couldn't be inspected, and why: the OpenSearch profile fits, which accuses
         less."""
-        self._take(f"what the index is isn't known ({why})", tell)
+        self._take(f"the index couldn't be inspected ({why})", report)
 
-    def _take(self, why: str, tell: Callable[[str], object]) -> None:
-        """Reports that the profile of OpenSearch fits, and why; takes it unless another one is named."""
+    def _take(self, why: str, report: Callable[[str], object]) -> None:
+        """Reports that the OpenSearch profile fits, and why; uses it unless an option names another
+        reading."""
         self._fits_profile = True
-        tell(f"{why}: the check that fits is {self._command}")
+        report(f"{why}: the check that fits is {self._command}")
         if not self._is_named:
             self._history.judge_in(OPENSEARCH)
             self.on_reading(OPENSEARCH)
 
     @property
     def command(self) -> Optional[str]:
-        """The check that fits, if it isn't the one without options."""
+        """The command of the check that fits, or None if it is the strict check."""
         return self._command if self._fits_profile else None

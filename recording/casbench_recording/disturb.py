@@ -1,13 +1,13 @@
-"""Disturbs a cluster while it is recorded: runs the operator's own commands at the times that a plan gives.
+"""Disturbs a cluster while it is recorded: runs the commands of a plan at its times.
 
     after 10 s: docker pause node-2
     for 5 s: docker unpause node-2
     every 60 s
 
-The first line begins a disturbance, so many seconds after the recording began; the second ends it, so many
-seconds later; the third has both done again and again, each so many seconds after the one before. Those
-without the second line end with their command, those without the third are done once. A plan has any number
-of disturbances, and lines that begin with `#`.
+The first line is the command that begins a disturbance, and when it runs after the start of the recording.
+The second is the command that ends it, and how much later it runs. The third repeats both at this interval.
+Without the second line a disturbance ends with its command; without the third it is done once. A plan may
+have any number of disturbances, and comment lines that begin with `#`.
 """
 
 import argparse
@@ -24,10 +24,10 @@ from dataclasses import dataclass
 from typing import Callable, Dict, List, Optional, Tuple
 
 LONGEST_COMMAND = 60.0
-"""For how many seconds a command is waited for."""
+"""The timeout of a command in seconds."""
 
 LONGEST_OUTPUT = 300
-"""The most letters of what a command that failed says."""
+"""How many characters of the output of a failed command are reported."""
 
 LINE = re.compile(r"(after|for|every)\s+([0-9]{1,6}(?:\.[0-9]{1,3})?)\s*s(?:\s*:\s*(\S.*))?")
 
@@ -35,13 +35,13 @@ Report = Callable[[str], None]
 
 
 class PlanError(ValueError):
-    """Why a plan can't be followed, in words for the operator."""
+    """Why a plan is invalid, for the operator."""
 
 
 @dataclass
 class Disturbance:
-    """The command that begins it, how many seconds after the recording began; the one that ends it, how many
-    seconds later, if there is one; and how many seconds lie between two beginnings, if there are several."""
+    """The command that begins a disturbance, and after how many seconds; the one that ends it, if there is
+    one, and how many seconds later; and the interval at which both are repeated, if they are."""
 
     after: float
     begin: str
@@ -51,7 +51,7 @@ class Disturbance:
 
 
 def plan_of(text: str) -> List[Disturbance]:
-    """The disturbances of a plan, in their order."""
+    """Parses a plan; returns its disturbances in order."""
     plan: List[Disturbance] = []
     for place, line in enumerate(text.splitlines(), start=1):
         line = line.strip()
@@ -66,25 +66,25 @@ def plan_of(text: str) -> List[Disturbance]:
 
 
 def read_line(plan: List[Disturbance], line: str, place: str) -> None:
-    """Adds to a plan what a line of it says."""
+    """Parses a line of a plan, and adds it."""
     found = LINE.fullmatch(line)
     if found is None or (found[1] == "every") != (found[3] is None):
-        raise PlanError(f"{place} is none of `after N s: COMMAND`, `for N s: COMMAND`, `every N s`")
+        raise PlanError(f"{place} isn't one of `after N s: COMMAND`, `for N s: COMMAND`, `every N s`")
     kind, seconds, command = found[1], float(found[2]), found[3]
     if kind == "after":
         plan.append(Disturbance(seconds, command))
     elif not plan:
-        raise PlanError(f"{place} stands before each `after N s: COMMAND`")
+        raise PlanError(f"{place} comes before any `after N s: COMMAND`")
     elif kind == "for" and not plan[-1].undo:
         plan[-1].lasts, plan[-1].undo = seconds, command
     elif kind == "every" and plan[-1].every is None and seconds:
         plan[-1].every = seconds
     else:
-        raise PlanError(f"{place} says `{kind}` twice of one disturbance, or `every 0 s`")
+        raise PlanError(f"{place} repeats `{kind}` for one disturbance, or is `every 0 s`")
 
 
 def read_plan(path: str) -> List[Disturbance]:
-    """The plan in a file, for the arguments of a command."""
+    """Reads the plan in a file, for the argument parser."""
     try:
         with open(path, encoding="utf-8") as file:
             return plan_of(file.read())
@@ -95,16 +95,16 @@ def read_plan(path: str) -> List[Disturbance]:
 
 
 class Disturber:
-    """Follows a plan while its block runs, on a thread of its own if anything is planned. What was begun is
-    ended with the block, however that ends."""
+    """Runs a plan while its block runs, on a thread of its own. What was begun is ended at the end of the
+    block, however that ends."""
 
     def __init__(self, plan: List[Disturbance], note: Report, report: Report) -> None:
         self._plan = plan
-        # puts a note on the next line of the history, and tells the operator of a failure
+        # puts a note on the next line of the history; reports a failure to the operator
         self._note = note
         self._report = report
         self.has_failed = False
-        # what was begun and not ended yet, by what it is and not by what it says
+        # what was begun and not ended yet, by its identity
         self._begun: Dict[int, Disturbance] = {}
         self._is_over = threading.Event()
         self._thread = threading.Thread(target=self._follow, daemon=True)
@@ -122,7 +122,7 @@ class Disturber:
             self._end(it)
 
     def _follow(self) -> None:
-        """Does what is due, until the block ends or nothing is left to do."""
+        """Runs the commands at their times, until the block ends or none is left."""
         began = time.monotonic()
         steps: List[Tuple[float, int, bool]] = [
             (it.after, number, True) for number, it in enumerate(self._plan)
@@ -136,7 +136,7 @@ class Disturber:
             if not is_begin:
                 self._end(it)
             if not is_begin or id(it) in self._begun:
-                # (what could not be ended isn't begun once more)
+                # (a disturbance that couldn't be ended isn't begun again)
                 continue
             is_done = self._begin(it)
             if it.undo:
@@ -145,7 +145,7 @@ class Disturber:
                 heapq.heappush(steps, (at + it.every, number, True))
 
     def _begin(self, it: Disturbance) -> bool:
-        """Begins a disturbance; tells whether that could be done. What could not is not tried again."""
+        """Begins a disturbance; returns whether the command succeeded. If it failed it isn't tried again."""
         self._note(f"begins: {it.begin}")
         if it.undo:
             self._begun[id(it)] = it
@@ -156,7 +156,7 @@ class Disturber:
         return not why
 
     def _end(self, it: Disturbance) -> None:
-        """Ends a disturbance. If that fails it is tried again when the block ends."""
+        """Ends a disturbance. If that fails it is tried again at the end of the block."""
         why = self._run(it.undo)
         if not why:
             del self._begun[id(it)]
@@ -164,7 +164,8 @@ class Disturber:
         self._report_fault(it.undo, why)
 
     def _run(self, command: str) -> str:
-        """Runs a command; returns why it failed, or nothing. The next line carries a failure."""
+        """Runs a command; returns why it failed, or an empty text. The next line of the history notes a
+        failure."""
         why = fault_of(command)
         if why:
             self.has_failed = True
@@ -172,14 +173,14 @@ class Disturber:
         return why
 
     def _report_fault(self, command: str, why: str) -> None:
-        """Reports a failure, if there was one, after all that the next line carries."""
+        """Reports a failure, if there was one, after the notes for the next line."""
         if why:
             self._report(f"the disturbance failed: {command}: {why}")
 
 
 def fault_of(command: str) -> str:
-    """Runs a command by the shell; why it failed, or nothing. It is in a session of its own, so that Ctrl-C
-    doesn't reach it."""
+    """Runs a command with the shell; returns why it failed, or an empty text. It runs in its own session, so
+    that Ctrl-C doesn't reach it."""
     with tempfile.TemporaryFile() as output:
         try:
             process = subprocess.Popen(

@@ -1,7 +1,7 @@
-"""HTTP/1.1 as it stands on a connection: the heads of messages, and where their bodies end.
+"""HTTP/1.1 messages on a connection: their heads, and where their bodies end.
 
-Bytes are only looked at here and never changed, so that they can be passed on as they came. What two readers
-could take for messages of different lengths is refused.
+Bytes are inspected and never changed, so that they can be passed on as received. A message that two servers
+could read with different lengths is refused; `http.client` accepts some of them.
 """
 
 import functools
@@ -12,22 +12,22 @@ from typing import NamedTuple, Optional, Tuple
 HEAD_END = b"\r\n\r\n"
 
 LONGEST_HEAD = 65_536
-"""The most bytes of the head of a message."""
+"""The maximum length of the head of a message in bytes."""
 
 MOST_REMEMBERED = 2048
-"""Of how many heads it is remembered what they say. Clients and clusters repeat theirs, byte for byte."""
+"""How many parsed heads are cached. Clients and clusters repeat theirs, byte for byte."""
 
 LONGEST_REMEMBERED = 1024
-"""The most bytes of such a head."""
+"""The maximum length of a cached head in bytes."""
 
 LONGEST_OPAQUE_ID = 80
-"""The most bytes of an X-Opaque-Id that are kept."""
+"""How many bytes of an X-Opaque-Id are kept."""
 
 LONGEST_CHUNK_LINE = 16_384
-"""The most bytes of a line between chunks."""
+"""The maximum length of a line between chunks in bytes."""
 
 MOST_TRAILERS = 65_536
-"""The most bytes of the fields behind the last chunk."""
+"""The maximum total length of the fields after the last chunk in bytes."""
 
 TOKEN = rb"[!#$%&'*+.^_`|~0-9A-Za-z-]+"
 VALUE = rb"[\t -~\x80-\xff]*"
@@ -50,12 +50,12 @@ CONNECTION = re.compile(rb"\r\n(connection):([^\r\n]*)", re.IGNORECASE)
 
 
 class BadMessage(Exception):
-    """A message that is none, or whose end isn't told as it has to be."""
+    """A message that isn't valid HTTP/1.1, or whose length is ambiguous."""
 
 
 class Body:
-    """The body of a message, whose bytes are handed in as they come. Its content is kept, unless somebody
-    says otherwise."""
+    """The body of a message, which is fed as it is received. Its content is kept unless `is_kept` is set to
+    false."""
 
     is_done = False
     is_kept = True
@@ -64,27 +64,27 @@ class Body:
         self.kept = bytearray()
 
     def take(self, data: bytes) -> int:
-        """How many of the bytes, from the first on, belong to the body."""
+        """Feeds bytes; returns how many of them, from the first on, belong to the body."""
         raise NotImplementedError
 
     def content(self) -> bytes:
-        """Hands over the content that was kept so far."""
+        """Returns the content that was kept so far, and drops it."""
         content = bytes(self.kept)
         self.kept = bytearray()
         return content
 
     def keep(self, piece: bytes) -> None:
-        """Takes a piece of the content."""
+        """Keeps a piece of the content."""
         if self.is_kept:
             self.kept += piece
 
     def at_close(self) -> bool:
-        """Whether the body is whole where the connection closes now."""
+        """Whether the body is complete if the connection is closed now."""
         return self.is_done
 
 
 class LengthBody(Body):
-    """A body of so many bytes."""
+    """A body with a Content-Length."""
 
     def __init__(self, length: int) -> None:
         super().__init__()
@@ -111,13 +111,13 @@ class ClosedBody(Body):
 
 
 class ChunkedBody(Body):
-    """A body in chunks, each behind a line with its length; behind the last one there may be more fields."""
+    """A chunked body, perhaps with fields after the last chunk."""
 
     def __init__(self) -> None:
         super().__init__()
         self.line = b""
-        self.left = 0  # (bytes of a chunk)
-        self.trailers = 0  # (bytes of the fields behind the last one)
+        self.left = 0  # of the current chunk
+        self.trailers = 0  # bytes of the fields after the last chunk
         self.is_behind_chunk = self.is_behind_last = False
 
     def take(self, data: bytes) -> int:
@@ -133,7 +133,7 @@ class ChunkedBody(Body):
         return at
 
     def take_line(self, data: bytes, at: int) -> int:
-        """Takes bytes up to the end of a line; gives the place behind them."""
+        """Reads bytes up to the end of a line; returns the position after them."""
         end = data.find(b"\n", at)
         self.line += data[at:] if end < 0 else data[at : end + 1]
         if len(self.line) > LONGEST_CHUNK_LINE:
@@ -147,16 +147,16 @@ class ChunkedBody(Body):
         return end + 1
 
     def handle_line(self, line: bytes) -> None:
-        """Heeds a line: what ends a chunk, the length of the next one, or a field behind the last one."""
+        """Handles a line: the end of a chunk, the length of the next one, or a field after the last one."""
         if self.is_behind_last:
             self.trailers += len(line)
             if line and not TRAILER.fullmatch(line) or self.trailers > MOST_TRAILERS:
-                raise BadMessage("a field behind the last chunk is none")
+                raise BadMessage("a field after the last chunk is invalid")
             self.is_done = not line
         elif self.is_behind_chunk:
             self.is_behind_chunk = False
             if line:
-                raise BadMessage("a chunk is longer than it says")
+                raise BadMessage("a chunk is longer than its length")
         else:
             size = CHUNK_LINE.fullmatch(line)
             if size is None:
@@ -167,13 +167,13 @@ class ChunkedBody(Body):
 
 
 class Fields(NamedTuple):
-    """The fields of a head that tell how the message is read."""
+    """The fields of a head that matter for reading the message."""
 
     length: Optional[int]
     is_chunked: bool
     encoding: bytes
     expects: bool
-    # who says to ask, cut to what a history takes
+    # X-Opaque-Id, truncated to what a history takes
     opaque_id: str = ""
     # whether it offers another protocol
     offers_upgrade: bool = False
@@ -188,11 +188,11 @@ class Request:
         self.method = method
         self.target = target
         self.fields = fields
-        # how many bytes the body has, or None if that comes only after the head
+        # the length of the body, or None if it isn't in the head
         self.length = None if fields.is_chunked else fields.length or 0
 
     def body(self) -> Body:
-        """Its body, of which nothing came yet."""
+        """Returns its body, to which nothing was fed yet."""
         return ChunkedBody() if self.length is None else LengthBody(self.length)
 
 
@@ -204,18 +204,18 @@ class Response:
     def __init__(self, status: int, fields: Fields) -> None:
         self.status = status
         self.fields = fields
-        # how many bytes the body has, unless it answers a HEAD, or None if that comes only after the head.
-        # With some statuses there is none, whatever the head says of its length
+        # the length of the body (except after HEAD), or None if it isn't in the head. With some statuses
+        # there is no body, whatever the head says
         self.length = (
             0 if status < 200 or status in (204, 304) else None if fields.is_chunked else fields.length
         )
 
     def length_for(self, method: str) -> Optional[int]:
-        """The length of the body in the answer to this method."""
+        """Returns the length of the body in the answer to this method."""
         return 0 if method == "HEAD" else self.length
 
     def body(self, method: str) -> Body:
-        """Its body in the answer to this method, of which nothing came yet."""
+        """Returns its body in the answer to this method, to which nothing was fed yet."""
         length = self.length_for(method)
         if length is not None:
             return LengthBody(length)
@@ -223,10 +223,10 @@ class Response:
 
 
 def fields_of(head: bytes, is_old: bool) -> Fields:
-    """The fields of a head, from the end of its first line on. A field that is told twice with two values, or
-    on two lines, is refused, and so is what isn't a field, and what the version of HTTP doesn't have."""
+    """Parses the fields of a head, from the end of its first line on. Refuses anything that isn't a field, a
+    field with two different values or on two lines, and what the version of HTTP doesn't have."""
     if FIELDS.fullmatch(head) is None:
-        raise BadMessage("a line of the head is no field")
+        raise BadMessage("a line of the head isn't a field")
     length: Optional[int] = None
     is_chunked = expects = offers_upgrade = False
     encoding, opaque_id = b"", ""
@@ -234,11 +234,11 @@ def fields_of(head: bytes, is_old: bool) -> Fields:
         name, value = name.lower(), text.strip(b" \t").lower()
         if name == b"content-length":
             if not NUMBER.fullmatch(value) or length not in (None, int(value)):
-                raise BadMessage("the length of the body is told wrong")
+                raise BadMessage("the Content-Length is invalid")
             length = int(value)
         elif name == b"transfer-encoding":
             if value != b"chunked" or is_chunked or is_old:
-                raise BadMessage("the body comes in a form that is not known")
+                raise BadMessage("the Transfer-Encoding isn't supported")
             is_chunked = True
         elif name == b"content-encoding":
             encoding = encoding + b"," + value if encoding else value
@@ -249,67 +249,67 @@ def fields_of(head: bytes, is_old: bool) -> Fields:
         else:
             offers_upgrade = True
     if is_chunked and length is not None:
-        raise BadMessage("the end of the body is told twice")
+        raise BadMessage("there are both a Content-Length and a Transfer-Encoding")
     return Fields(length, is_chunked, encoding, expects, opaque_id, offers_upgrade)
 
 
 remembered_fields = functools.lru_cache(maxsize=MOST_REMEMBERED)(fields_of)
-"""The same, remembered: a client's fields are often the same where its first lines aren't."""
+"""The same, cached: a client often sends the same fields after different first lines."""
 
 
 def fields_behind(head: bytes, is_old: bool) -> Fields:
-    """The fields behind the first line of a head."""
+    """Parses the fields after the first line of a head."""
     return remembered_fields(head, is_old) if len(head) <= LONGEST_REMEMBERED else fields_of(head, is_old)
 
 
 def read_request(head: bytes) -> Request:
-    """Reads the head of a request."""
+    """Parses the head of a request."""
     line = REQUEST_LINE.match(head)
     if line is None:
-        raise BadMessage("it doesn't begin as a request of HTTP/1.1")
+        raise BadMessage("it doesn't start like an HTTP/1.1 request")
     return Request(line[1].decode("ascii"), line[2], fields_behind(head[line.end() - 2 :], line[3] == b"0"))
 
 
 def read_response(head: bytes) -> Response:
-    """Reads the head of a response."""
+    """Parses the head of a response."""
     line = STATUS_LINE.match(head)
     if line is None:
-        raise BadMessage("it doesn't begin as a response of HTTP/1.1")
+        raise BadMessage("it doesn't start like an HTTP/1.1 response")
     return Response(int(line[2]), fields_behind(head[line.end() - 2 :], line[1] == b"0"))
 
 
-# (only for heads that aren't longer than is remembered)
+# (only for heads of at most LONGEST_REMEMBERED bytes)
 remembered_request = functools.lru_cache(maxsize=MOST_REMEMBERED)(read_request)
 remembered_response = functools.lru_cache(maxsize=MOST_REMEMBERED)(read_response)
 
 
 def request_of(head: bytes) -> Request:
-    """Reads the head of a request, or remembers it."""
+    """Parses the head of a request, with a cache."""
     return remembered_request(head) if len(head) <= LONGEST_REMEMBERED else read_request(head)
 
 
 def without_empty_lines(data: bytes) -> bytes:
-    """The bytes without the empty lines that may stand before a request."""
+    """Returns the bytes without the empty lines that may precede a request."""
     empty = EMPTY_LINES.match(data)
     return data[empty.end() :] if empty is not None else data
 
 
 def passed_head(head: bytes, host: bytes) -> bytes:
-    """The head of a request as it is passed on: without the offer to go on in another protocol, such as h2c,
-    which is for the next server alone; and with this host, if it is one."""
+    """Returns the head of a request as it is passed on: without an offer of another protocol, such as h2c,
+    which is for the next server only; and with this host, unless it is empty."""
     head = CONNECTION.sub(without_upgrade_options, OF_AN_UPGRADE.sub(b"", head))
     return HOST.sub(lambda field: field[1] + host, head) if host else head
 
 
 def without_upgrade_options(field: "re.Match[bytes]") -> bytes:
-    """A field Connection without the options of an upgrade; nothing if no other is left."""
+    """Returns a field Connection without the options of an upgrade; empty if no option is left."""
     options = [it.strip(b" \t") for it in field[2].split(b",")]
     kept = [it for it in options if it.lower() not in (b"", b"upgrade", b"http2-settings")]
     return b"\r\n" + field[1] + b": " + b", ".join(kept) if kept else b""
 
 
 def head_end(data: bytes) -> int:
-    """The place behind the head at the front of the bytes; 0 where it isn't whole yet."""
+    """Returns the position after the head at the start of the bytes; 0 if it isn't complete yet."""
     end = data.find(HEAD_END)
     if end >= 0:
         return end + 4
@@ -319,15 +319,14 @@ def head_end(data: bytes) -> int:
 
 
 def split_head(data: bytes) -> Tuple[bytes, bytes]:
-    """The head at the front of the bytes, its end with it, and what stands behind it; no head where it isn't
-    whole yet."""
+    """Splits bytes after the head at their start; the head is empty if it isn't complete yet."""
     end = head_end(data)
     return data[:end], data[end:]
 
 
 def decoded(content: bytes, encoding: bytes, most: int) -> Optional[bytes]:
-    """The content without its encoding, or None where that isn't known, is broken, or hides more bytes than
-    the most."""
+    """Returns the content without its encoding; None if the encoding is unknown, the content is broken, or
+    the result is longer than `most`."""
     if encoding in (b"", b"identity"):
         return content if len(content) <= most else None
     decoder = decoder_of(encoding)
@@ -341,5 +340,5 @@ def decoded(content: bytes, encoding: bytes, most: int) -> Optional[bytes]:
 
 
 def decoder_of(encoding: bytes) -> "Optional[zlib._Decompress]":
-    """What takes the encoding from a content, if it is one that is known and changes anything."""
+    """Returns a decompressor for an encoding; None if the encoding is unknown or changes nothing."""
     return zlib.decompressobj(zlib.MAX_WBITS | 32) if encoding in (b"gzip", b"x-gzip", b"deflate") else None

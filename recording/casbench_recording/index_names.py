@@ -1,41 +1,41 @@
-"""The names by which an index is reached, and the expressions by which a request may name it."""
+"""The names by which an index is reached, and the expressions in a request that may name it."""
 
 import re
 from typing import List, Sequence
 
 LONGEST_EXPRESSION = 2048
-"""The most letters of an expression of indexes that are looked at."""
+"""The maximum length of an index expression that is evaluated."""
 
 DATE = re.compile(r"\{[^{}\\]*(?:\{[^{}\\]*\})?\}")
-"""A date in a name, perhaps with the form in which it is written."""
+"""A date in a name, with or without its format."""
 
 ESCAPES = set("{}\\")
-"""What makes such a name hard to read."""
+"""Characters that make such a name hard to evaluate."""
 
 
 class Names:
-    """The names by which an index is reached: its own and its aliases."""
+    """The names of an index: its own and its aliases."""
 
     def __init__(self, names: List[str], routed: List[str]) -> None:
         self.all = frozenset(names)
-        # those aliases that bring a routing along
+        # aliases with a routing
         self.routed = frozenset(routed)
 
     def may_be_among(self, expression: str) -> bool:
-        """Whether an expression of several indexes, or of one that a date makes, may name the index. A very
-        long one may."""
+        """Returns whether an expression, such as a list, a pattern or a date math name, may name the index. A
+        very long expression may."""
         if expression == "_all" or len(expression) > LONGEST_EXPRESSION:
             return True
         return any(self.has(pattern_of(it)) for it in expression.split(","))
 
     def has(self, pattern: str) -> bool:
-        """Whether a name, in which a star stands for any text, names the index."""
+        """Returns whether a name, in which `*` stands for any text, names the index."""
         pieces = pattern.split("*")
         return any(is_made_of(it, pieces) for it in self.all)
 
 
 def pattern_of(name: str) -> str:
-    """A name, or the pattern of the names that a date makes of it: of `<logs-{now/d}>` it is `logs-*`."""
+    """Returns a name, or the pattern of a date math name: `logs-*` for `<logs-{now/d}>`."""
     if not (name.startswith("<") and name.endswith(">")):
         return name
     pattern = DATE.sub("*", name[1:-1])
@@ -43,7 +43,7 @@ def pattern_of(name: str) -> str:
 
 
 def is_made_of(name: str, pieces: Sequence[str]) -> bool:
-    """Whether a name is these pieces in their order, with any text between two of them."""
+    """Returns whether a name consists of these pieces in order, with any text between two of them."""
     first, last = pieces[0], pieces[-1]
     if len(pieces) == 1:
         return name == first

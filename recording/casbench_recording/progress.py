@@ -1,5 +1,5 @@
-"""Reports on a terminal how far a recording is: every second the calls, those that were lost, and the calls
-of that second."""
+"""Reports the progress of a recording on a terminal: every second the number of calls, of lost calls, and of
+new calls."""
 
 import contextlib
 import os
@@ -7,22 +7,19 @@ import sys
 import threading
 from typing import IO, Callable, Optional, Tuple
 
-from .console import CLEARED, counted, escaped, tell
+from .console import CLEARED, counted, escaped, report
 
 CountCalls = Callable[[], Tuple[int, int]]
 """Returns how many calls were recorded so far, and how many of them are lost."""
 
 
 WIDTH = 80
-"""The columns of a terminal that doesn't say how many it has."""
+"""The assumed width of a terminal that doesn't report one."""
 
 
 class Progress:
-    """A line that is written again every second while the block runs, with a remark at its end, if there is
-    one.
-
-    Nothing is written if the stream is no terminal.
-    """
+    """A line that is rewritten every second while the block runs, with a remark at its end if there is one.
+    If the stream isn't a terminal, nothing is written."""
 
     def __init__(
         self,
@@ -36,7 +33,7 @@ class Progress:
         self._stream = stream or sys.stderr
         self._seconds = seconds
         self._is_over = threading.Event()
-        self._thread = threading.Thread(target=self._tell_on, daemon=True)
+        self._thread = threading.Thread(target=self._report_on, daemon=True)
 
     def __enter__(self) -> "Progress":
         if self._stream is not None and self._stream.isatty():
@@ -49,8 +46,8 @@ class Progress:
             self._thread.join()
             self._write("")
 
-    def _tell_on(self) -> None:
-        """Reports the counts every second, until it is over."""
+    def _report_on(self) -> None:
+        """Reports the counts every second."""
         before, _ = self._counts()
         while not self._is_over.wait(self._seconds):
             calls, lost = self._counts()
@@ -62,10 +59,10 @@ class Progress:
             before = calls
 
     def _write(self, line: str) -> None:
-        """Puts the line in the place of the one before, cut to the width of the terminal, if the terminal
-        takes it."""
+        """Replaces the previous line, truncated to the width of the terminal; drops it if the terminal
+        doesn't accept it."""
         descriptor = self._stream.fileno()
         width = 0
         with contextlib.suppress(OSError):
             width = os.get_terminal_size(descriptor).columns
-        tell(f"{CLEARED}{escaped(line)[: (width or WIDTH) - 1]}", descriptor)
+        report(f"{CLEARED}{escaped(line)[: (width or WIDTH) - 1]}", descriptor)

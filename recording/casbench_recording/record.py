@@ -1,17 +1,15 @@
-"""Records what several clients ask of an OpenSearch cluster, and what it answers, as a history text for
-casbench.
+"""Records a load on an OpenSearch cluster in a history text for casbench.
 
     python3 -m casbench_recording.record http://127.0.0.1:9200 carts carts.ndjson
     casbench check carts.ndjson
 
-The first makes an empty index of one shard, `carts`, has clients read and write a few documents of it at the
-same time, and writes each call and each reply to carts.ndjson. The second tells whether one order of all
-calls explains every reply. docs/RECORDING.md tells what the words mean, and the rules that a recorder has to
-keep. Each rule is kept at one place here; that place names it.
+The first command creates an empty index of one shard, `carts`, has clients read and write a few documents of
+it concurrently, and writes each call and each reply to carts.ndjson. The second reports whether one order of
+all calls explains every reply. docs/RECORDING.md describes the arguments, and the rules that a recorder has
+to keep. The code that keeps one of them names it.
 
-Who asks is told by the environment alone, where the cluster wants to know: OPENSEARCH_USER with
-OPENSEARCH_PASSWORD, or OPENSEARCH_HEADER, a whole header such as `Authorization: Bearer ...`. Python 3.9 or
-later, nothing beside it.
+Credentials come from the environment alone: OPENSEARCH_USER with OPENSEARCH_PASSWORD, or OPENSEARCH_HEADER, a
+complete header such as `Authorization: Bearer ...`. It needs Python 3.9 or later, and no other package.
 """
 
 import argparse
@@ -54,41 +52,39 @@ from .watch.process import CAN_NOT_CHECK, WatchProcess, add_watch_options, try_w
 from .watch.snapshots import CheckError
 
 TURNS = ",".join(f"{kind}={weight}" for kind, weight in {**MIXTURE, "bulk": 1}.items())
-"""How often each kind of turn is drawn, where the words don't say."""
+"""The default frequency of each operation."""
 
 KINDS = ("get", *WRITES, "bulk")
 
 OF_THE_PRIMARY = "primary"
-"""The value of --gets by which gets are sent to the primary."""
+"""The value of --gets with which gets are sent to the primary."""
 
 
 class LoadStop:
-    """What has all clients make no more calls: somebody asked for it, the watch found a fault, or the time is
-    over."""
+    """Why the clients stop: on request, because the watch found a fault, or because the time is over."""
 
     def __init__(self) -> None:
         self.is_set = False
         self.was_asked = False
-        # the moment from which on no more calls are made
+        # the time after which no more calls are made
         self.last = math.inf
         # whether the history was full before the time was over
         self.is_full = False
-        # whether a command failed that was to disturb the cluster
+        # whether a command of the plan failed
         self.has_failed = False
 
     def ask(self, *_: object) -> None:
-        """Answers Ctrl-C, and a request to end. The second one doesn't wait any longer for calls that are
-        open."""
+        """Handles Ctrl-C and SIGTERM. The second one doesn't wait for open calls."""
         if self.was_asked:
             raise KeyboardInterrupt
         self.is_set = self.was_asked = True
 
     def halt(self) -> None:
-        """Answers the watch, which found a fault."""
+        """Called when the watch found a fault."""
         self.is_set = True
 
     def is_over(self) -> bool:
-        """Whether no more calls are made."""
+        """Returns whether the clients make no more calls."""
         return self.is_set or time.monotonic() >= self.last
 
 
@@ -96,7 +92,7 @@ class LoadStop:
 
 
 class FinishedRecording(NamedTuple):
-    """A recording that is over, why the clients made no more calls, and the exit status of its watch."""
+    """A finished recording, why the clients stopped, and the exit status of its watch."""
 
     recording: CallWriter
     stop: LoadStop
@@ -115,46 +111,44 @@ def make_index(connection: Connection, setting: argparse.Namespace, index: str) 
     try:
         answer = connection.ask("PUT", f"/{index}", json.dumps(body))
     except NoAnswer as fault:
-        raise ClusterError(f"the index {index} was asked for, and no answer came: {fault}") from fault
-    told = answer.members
+        raise ClusterError(f"the cluster didn't answer the creation of the index {index}: {fault}") from fault
+    members = answer.members
     if (
         answer.status != 200
-        or told.get("acknowledged") is not True
-        or told.get("shards_acknowledged") is False
+        or members.get("acknowledged") is not True
+        or members.get("shards_acknowledged") is False
     ):
-        raise ClusterError(why_no_index(index, answer.status, told))
+        raise ClusterError(why_no_index(index, answer.status, members))
 
 
 def try_primary(connection: Connection, index: str) -> None:
-    """Sees to it that the cluster takes a get of the primary, as OpenSearch does since 2.4. Else each of them
-    would be lost."""
+    """Checks that the cluster accepts gets of the primary, as OpenSearch does since 2.4. Otherwise all of
+    them would be lost."""
     try:
         answer = connection.ask("GET", f"/{index}/_doc/none?preference={PRIMARY}")
     except NoAnswer as fault:
-        raise ClusterError(
-            f"the cluster was asked for a document of its primary, and no answer came: {fault}"
-        ) from fault
+        raise ClusterError(f"the cluster didn't answer a get of the primary: {fault}") from fault
     if answer.members.get("found") is not False:
-        refused = f"the cluster doesn't take gets with preference={PRIMARY} (HTTP {answer.status})"
+        refused = f"the cluster doesn't accept gets with preference={PRIMARY} (HTTP {answer.status})"
         raise ClusterError(f"{refused}: OpenSearch does since 2.4")
 
 
-def why_no_index(index: str, status: int, told: Dict[str, Any]) -> str:
-    """Why an index was not made, in words."""
-    error = told.get("error")
+def why_no_index(index: str, status: int, members: Dict[str, Any]) -> str:
+    """Returns why an index was not created, in words."""
+    error = members.get("error")
     kind, reason = (error.get("type"), error.get("reason")) if isinstance(error, dict) else (None, error)
     if status == 200:
-        return f"the index {index} was made, but its shard was not ready in time: delete it and try again"
+        return f"the index {index} was created, but its shard was not ready in time: delete it and try again"
     if status in (401, 403):
         names = "OPENSEARCH_USER, OPENSEARCH_PASSWORD, OPENSEARCH_HEADER"
-        return f"the cluster refuses who asks (HTTP {status}): see {names}"
+        return f"the cluster refuses the credentials (HTTP {status}): see {names}"
     if kind == "resource_already_exists_exception":
-        return f"the index {index} exists. A history begins on an empty one: name another, or delete it"
-    return f"the index {index} was not made (HTTP {status}): {json.dumps(kind)} {json.dumps(reason)}"
+        return f"the index {index} exists. A history starts on an empty index: name another one, or delete it"
+    return f"the index {index} was not created (HTTP {status}): {json.dumps(kind)} {json.dumps(reason)}"
 
 
 def record(setting: argparse.Namespace) -> FinishedRecording:
-    """Makes the index and records the clients' calls."""
+    """Creates the index and records the calls of the clients."""
     stop = LoadStop()
     if setting.watch:
         try_watch(setting)
@@ -162,11 +156,11 @@ def record(setting: argparse.Namespace) -> FinishedRecording:
     with contextlib.ExitStack() as stack:
         stack.callback(recording.end)
         watcher = (
-            stack.enter_context(WatchProcess(setting.file, watch_options(setting), stop.halt, tell_fault))
+            stack.enter_context(WatchProcess(setting.file, watch_options(setting), stop.halt, report_fault))
             if setting.watch
             else None
         )
-        # (before the watch ends, so that its last check has the last line)
+        # (ends before the watch, so that its last check has the last line)
         stack.enter_context(recording)
         stack.enter_context(Progress(lambda: (recording.calls, recording.lost)))
         with contextlib.closing(Connection(setting.clusters[0])) as first:
@@ -179,11 +173,11 @@ def record(setting: argparse.Namespace) -> FinishedRecording:
         if setting.seconds is not None:
             stop.last = time.monotonic() + setting.seconds
         load = load_of(setting, recording, stop)
-        # (before the first disturbance, so that an interruption undoes what was begun)
+        # (before the first disturbance, so that an interruption ends what was begun)
         for kind in (signal.SIGINT, signal.SIGTERM):
             signal.signal(kind, stop.ask)
-        with Disturber(setting.disturb, recording.note, tell_fault) as disturber:
-            # (once stop is set, calls that are open may still be answered, and are recorded)
+        with Disturber(setting.disturb, recording.note, report_fault) as disturber:
+            # (after `stop` is set, open calls may still be answered, and are recorded)
             load.run()
         stop.has_failed = disturber.has_failed
         is_early = setting.seconds is not None and not stop.is_over()
@@ -192,14 +186,14 @@ def record(setting: argparse.Namespace) -> FinishedRecording:
 
 
 def is_fitted(setting: argparse.Namespace) -> bool:
-    """Whether the reading is the one that fits the index, which isn't known before that is made: if one
-    matters, and none is named."""
+    """Returns whether the reading is chosen by the index, which isn't known before it is created: if the
+    recording needs a reading, and no option names one."""
     return (setting.watch or setting.part is not None) and not is_named(setting)
 
 
 def fit(setting: argparse.Namespace, recording: CallWriter, watcher: Optional[WatchProcess]) -> None:
-    """Has the recording and its watch take the reading that fits the index; if it can't be looked at, the one
-    that accuses less."""
+    """Has the recording and its watch use the reading that fits the index; the OpenSearch profile if it can't
+    be inspected."""
 
     def judge_in(reading: Reading) -> None:
         setting.reading = reading
@@ -212,16 +206,16 @@ def fit(setting: argparse.Namespace, recording: CallWriter, watcher: Optional[Wa
         try:
             shape = Inspector(connection).inspect(urllib.parse.unquote(setting.index))
         except ClusterError as fault:
-            default_reading.take_unknown(str(fault), tell_fault)
+            default_reading.take_unknown(str(fault), report_fault)
             return
     if shape is not None:
-        default_reading.take(shape, tell_fault)
+        default_reading.take(shape, report_fault)
     else:
-        default_reading.take_unknown("it isn't there", tell_fault)
+        default_reading.take_unknown("it isn't there", report_fault)
 
 
 def load_of(setting: argparse.Namespace, recording: CallWriter, stop: LoadStop) -> Load:
-    """The clients. With several addresses one after the other takes the next of them, and stays there."""
+    """Returns the clients. With several URLs they take turns in choosing one, and stay with it."""
     load = Load(recording, setting.seed, stop.is_over)
     store = ClusterStore(setting, load.is_over)
     habits = Habits(
@@ -232,14 +226,14 @@ def load_of(setting: argparse.Namespace, recording: CallWriter, stop: LoadStop) 
 
 
 def recording_of(setting: argparse.Namespace) -> CallWriter:
-    """The file that is written, or the directory with one for each part."""
+    """Creates the file of the history, or the directory of its parts."""
     if setting.part is not None:
         return Continuing(setting.file, setting.part, setting.reading)
     return History(setting.file, setting.reading.most_events)
 
 
-def tell_fault(text: str) -> None:
-    """Writes a line on standard error."""
+def report_fault(text: str) -> None:
+    """Writes a line to standard error."""
     print(f"record.py: {text}", file=sys.stderr)
 
 
@@ -247,49 +241,49 @@ def tell_fault(text: str) -> None:
 
 
 def mixture_of(text: str) -> Dict[str, int]:
-    """The words of --mixture: how often each kind of turn is drawn."""
+    """Parses --mixture, the frequency of each operation."""
     mixture = dict.fromkeys(KINDS, 0)
     for part in text.split(","):
         name, _, weight = part.partition("=")
         if name not in mixture or not weight.isdecimal():
             known = ", ".join(f"{kind}=N" for kind in KINDS)
-            raise argparse.ArgumentTypeError(f"{part!r} is none of {known}")
+            raise argparse.ArgumentTypeError(f"{part!r} isn't one of {known}")
         mixture[name] = int(weight)
     if not any(mixture.values()):
-        raise argparse.ArgumentTypeError("no kind is drawn at all")
+        raise argparse.ArgumentTypeError("all frequencies are 0")
     return mixture
 
 
 def urls_of(text: str) -> List[Url]:
-    """The addresses of the nodes, separated by commas."""
+    """Parses the URLs of the nodes, separated by commas."""
     return [url_of(it) for it in text.split(",")]
 
 
 def parse_arguments(arguments: Optional[Sequence[str]]) -> argparse.Namespace:
-    """Reads the arguments of the command; without any, those of the process."""
+    """Parses the arguments; those of the process if there are none."""
     parser = argparse.ArgumentParser(
-        description="Records clients of an OpenSearch cluster as a history for casbench."
+        description="Records a load on an OpenSearch cluster in a history for casbench."
     )
     add = parser.add_argument
     add(
         "urls",
         type=urls_of,
         metavar="URL[,URL..]",
-        help="the cluster's address, as https://host:9200, or those of several nodes",
+        help="the URL of the cluster, or those of several nodes",
     )
-    add("index", help="the index that is made, and must not be there")
-    add("file", help="the file that the history is written to, and must not be there")
-    add("--clients", type=number_from(1), default=4, help="how many clients ask at once (4)")
-    add("--documents", type=number_from(1), default=8, help="how many documents there are (8)")
+    add("index", help="the index to create; must not exist")
+    add("file", help="the file to write the history to; must not exist")
+    add("--clients", type=number_from(1), default=4, help="number of concurrent clients (4)")
+    add("--documents", type=number_from(1), default=8, help="number of documents (8)")
     add(
         "--calls",
         type=number_from(1),
-        help="how many calls each client makes (1000; any number with --seconds)",
+        help="number of calls of each client (1000; unlimited with --seconds)",
     )
-    add("--seconds", type=number_from(0, float), help="after how many seconds no more calls are made")
-    add("--seed", type=int, default=1, help="what the turns are drawn from (1)")
-    add("--mixture", type=mixture_of, default=TURNS, help=f"how often each kind is drawn ({TURNS})")
-    add("--bulk-items", type=number_from(1), default=4, help="how many items a bulk request has (4)")
+    add("--seconds", type=number_from(0, float), help="stop after this many seconds")
+    add("--seed", type=int, default=1, help="seed of the random choice of operations (1)")
+    add("--mixture", type=mixture_of, default=TURNS, help=f"relative frequency of each operation ({TURNS})")
+    add("--bulk-items", type=number_from(1), default=4, help="number of items of a bulk request (4)")
     add("--timeout", type=number_from(0.001, float), default=10.0, help="seconds to wait for an answer (10)")
     add("--patience", type=number_from(0, float), default=60.0, help="seconds to wait for a connection (60)")
     add_part_options(add)
@@ -300,14 +294,14 @@ def parse_arguments(arguments: Optional[Sequence[str]]) -> argparse.Namespace:
         type=read_plan,
         metavar="PLAN",
         default=[],
-        help="run the commands of this plan meanwhile, to disturb the cluster",
+        help="disturb the cluster: run the commands of this plan during the recording",
     )
-    add("--replicas", type=number_from(0), help="how many replicas the index has (the cluster's default)")
+    add("--replicas", type=number_from(0), help="number of replicas of the index (the cluster's default)")
     add_certificate_options(add)
     setting = parser.parse_args(arguments)
     setting.asks_primary = setting.gets == OF_THE_PRIMARY
     if setting.asks_primary:
-        # (how they are read is the profile's matter)
+        # (the profile says how they are read)
         setting.gets = None
     if setting.calls is None:
         setting.calls = 1000 if setting.seconds is None else ANY_NUMBER
@@ -316,13 +310,13 @@ def parse_arguments(arguments: Optional[Sequence[str]]) -> argparse.Namespace:
     setting.reading = reading_of(setting)
     most_calls = (OPENSEARCH if is_fitted(setting) else setting.reading).most_events // 2
     if setting.part is None and setting.seconds is None and setting.clients * setting.calls > most_calls:
-        parser.error(f"over {most_calls} calls, the most of one history: record it in parts, by --parts")
+        parser.error(f"over {most_calls} calls, the maximum of one history: record in parts, with --parts")
     return setting
 
 
 def main(arguments: Optional[Sequence[str]] = None) -> int:
-    """Records by the words given, and returns the exit status: 0 recorded, 1 a named error, 3 the recording
-    ended early, 4 it can't be checked, 130 interrupted."""
+    """Records, and returns the exit status: 0 recorded, 1 an error, 3 the recording ended early, 4 it can't
+    be checked, 130 interrupted."""
     setting = parse_arguments(arguments)
     try:
         credentials = credentials_of(os.environ)
@@ -332,10 +326,10 @@ def main(arguments: Optional[Sequence[str]] = None) -> int:
         ]
         recorded = record(setting)
     except (ClusterError, HistoryError, OSError) as fault:
-        tell_fault(str(fault))
+        report_fault(str(fault))
         return 1
     except CheckError as fault:
-        tell_fault(str(fault))
+        report_fault(str(fault))
         return CAN_NOT_CHECK
     except KeyboardInterrupt:
         return 130
@@ -346,7 +340,7 @@ def main(arguments: Optional[Sequence[str]] = None) -> int:
     else:
         print("no call was made, so there is no file", file=sys.stderr)
     if stop.is_full:
-        tell_fault(f"the recording ended early: {setting.file} is full; --parts records more, in parts")
+        report_fault(f"the recording ended early: {setting.file} is full; --parts records more, in parts")
     return recorded.watched or (
         ENDED_EARLY if stop.is_full else 130 if stop.was_asked else int(stop.has_failed)
     )

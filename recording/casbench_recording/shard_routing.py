@@ -1,20 +1,18 @@
-"""Which shard a document is on, as OpenSearch reckons it from the document's id, or from a routing that a
-request names."""
+"""Computes the shard of a document as OpenSearch does, from its id or its routing."""
 
 PRIMARY = "_primary"
-"""The preference of a get that the primary answers. OpenSearch takes it since 2.4."""
+"""The preference of a get that the primary answers, which OpenSearch supports since 2.4."""
 
 MASK = 0xFFFF_FFFF
 
 
 def shard_of(routing: str, shards: int, routing_shards: int) -> int:
-    """The shard, of so many, that a routing is on. The index's routing shards are a multiple of its
-    shards."""
+    """Returns the shard of a routing. The number of routing shards is a multiple of that of shards."""
     return hash_of(routing) % routing_shards // (routing_shards // shards)
 
 
 def hash_of(routing: str) -> int:
-    """The Murmur3 hash, of 32 bits and with a sign, of the text in UTF-16."""
+    """Returns the signed 32-bit Murmur3 hash of the text in UTF-16."""
     data = routing.encode("utf-16-le", "surrogatepass")
     whole = len(data) & ~3
     hashed = 0
@@ -29,10 +27,10 @@ def hash_of(routing: str) -> int:
 
 
 def mixed(block: int) -> int:
-    """Four bytes, as they go into the hash."""
+    """Mixes a block of four bytes for the hash."""
     return rotated(block * 0xCC9E_2D51 & MASK, 15) * 0x1B87_3593 & MASK
 
 
 def rotated(number: int, count: int) -> int:
-    """The 32 bits, turned by so many to the left."""
+    """Rotates 32 bits to the left."""
     return (number << count | number >> (32 - count)) & MASK

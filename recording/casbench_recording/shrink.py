@@ -1,13 +1,13 @@
-"""Cuts a history down to few calls that get the same answer, for a report.
+"""Reduces a history to a few calls that get the same answer, for a report.
 
     python3 -m casbench_recording.shrink carts.ndjson >few.ndjson
 
-It takes the options of a check, such as `--profile opensearch`. The answer of casbench to what is left is the
-same: `no` or `refuted`, of a refutation the kind and the calls of the evidence, of a `no` the call at whose
-reply the search fails. With `--witness FILE`, which shows that the `no` is a false alarm, the part of the
-witness that is of the calls that are left stays verified. Each line that is left stands as it was, in its
-order, and none of the calls can be left out alone. What is left is written at the end, and not if it would go
-into the history itself.
+It takes the options of a check, such as `--profile opensearch`. The reduced history gets the same answer from
+casbench: `no` or `refuted`; for a refutation with the same kind and the same calls as evidence, for a `no`
+with the same call at whose reply the search fails. With `--witness FILE`, which shows that a `no` is a false
+alarm, the part of the witness for the remaining calls stays valid. The remaining lines are unchanged and in
+order, and no single call can be removed from them. The result is written at the end, unless it would
+overwrite the history itself.
 """
 
 import argparse
@@ -22,16 +22,16 @@ from .history.parsing import Beginnings, ParsedCall, ParsedHistory, VersionKey
 from .history.readings import STRICT, Reading, add_reading_options, is_ruling_out, reading_of
 
 FIRST_WINDOW, WINDOW_FACTOR = 64, 4
-"""How many calls the first window before the answer has, and how many times as many the next one."""
+"""The number of calls of the first window before the answer, and the factor of each further one."""
 
 
 class ShrinkError(Exception):
-    """Why a history can't be cut down, for the operator."""
+    """Why a history can't be reduced, for the operator."""
 
 
 class WantedAnswer(NamedTuple):
-    """What has to stay: the word, the kind of evidence, and the calls that are named. A `no` names one, and
-    may be proved or not: it is if of each write of the document the outcome is known."""
+    """The answer that has to stay: its word, the kind of evidence, and the calls that it names. A `no` names
+    one call, and is proved if the outcome of each write of its document is known."""
 
     word: str
     kind: str
@@ -40,7 +40,7 @@ class WantedAnswer(NamedTuple):
 
 
 class Program:
-    """The program, with the words of its check."""
+    """The program, with the options of its check."""
 
     def __init__(self, path: str, reading: Reading = STRICT, is_ruling_out: bool = False) -> None:
         self.path = path
@@ -49,11 +49,11 @@ class Program:
         self.runs = 0
 
     def answer(self, text: bytes) -> str:
-        """The line that a check writes for a text."""
+        """Returns the answer of a check of a text."""
         return self.run(["check", *self.options], text)
 
     def verified(self, text: bytes, witness: bytes) -> str:
-        """The line that a verification of the witness writes."""
+        """Returns the answer of a verification of the witness."""
         with open(os.memfd_create("witness"), "wb") as file:
             file.write(witness)
             file.flush()
@@ -64,7 +64,7 @@ class Program:
             )
 
     def run(self, options: Sequence[str], text: bytes, files: Sequence[int] = ()) -> str:
-        """The line that a command writes."""
+        """Returns the answer of a command."""
         self.runs += 1
         ran = subprocess.run(
             [self.path, *options], input=text, stdout=subprocess.PIPE, stderr=subprocess.PIPE, pass_fds=files
@@ -75,33 +75,33 @@ class Program:
 
 
 class Shrinker:
-    """A history that is cut down."""
+    """A history that is being reduced."""
 
     def __init__(self, lines: Iterable[bytes], program: Program, witness: Optional[bytes] = None) -> None:
         self.program = program
         self.has_witness = witness is not None
         self.recorded = ParsedHistory(lines, program.reading)
         text = b"".join(self.recorded.lines)
-        told = program.answer(text)
-        if not told.startswith(("no ", "refuted ")):
-            raise ShrinkError(f"it gets {told.strip()}, so there is nothing to cut down")
+        answer = program.answer(text)
+        if not answer.startswith(("no ", "refuted ")):
+            raise ShrinkError(f"it gets {answer.strip()}, so there is nothing to reduce")
         self.recorded.read()
         self.calls = self.recorded.calls
         if witness is not None:
-            told_of_witness = program.verified(text, witness)
-            if not told_of_witness.startswith("verified "):
-                raise ShrinkError(f"the witness gets {told_of_witness.strip()}")
+            verified = program.verified(text, witness)
+            if not verified.startswith("verified "):
+                raise ShrinkError(f"the witness gets {verified.strip()}")
             self.recorded.read_witness(witness)
         self.kept = set(self.calls)
-        self.wanted = self.read_answer(told, self.kept)
+        self.wanted = self.read_answer(answer, self.kept)
         self.before = len(self.kept)
         self.makers: Dict[VersionKey, int] = {it.made: it.number for it in self.calls.values() if it.made}
         self.readers = self.calls_by_version()
 
-    def read_answer(self, told: str, kept: Set[int]) -> WantedAnswer:
-        """What a line says of a history of these calls."""
-        word = told.split(" ", 1)[0]
-        fields = dict(it.split("=", 1) for it in told.split()[1:])
+    def read_answer(self, answer: str, kept: Set[int]) -> WantedAnswer:
+        """Parses an answer to a history of these calls."""
+        word = answer.split(" ", 1)[0]
+        fields = dict(it.split("=", 1) for it in answer.split()[1:])
         if word != "no":
             calls = tuple(int(it) for it in fields.get("calls", "").split(",") if it)
             return WantedAnswer(word, fields.get("kind", ""), calls, True)
@@ -113,8 +113,8 @@ class Shrinker:
         return WantedAnswer(word, "", (number,), is_proved)
 
     def calls_by_version(self) -> Dict[VersionKey, List[int]]:
-        """The calls that stand on each version: gets that found it, and writes that were performed under its
-        pair."""
+        """Returns the calls that depend on each version: gets that found it, and writes on the condition of
+        its pair."""
         readers: Dict[VersionKey, List[int]] = {}
         for number, it in self.calls.items():
             if it.stands_on is not None:
@@ -122,7 +122,7 @@ class Shrinker:
         return readers
 
     def gets_the_same(self, kept: Set[int]) -> bool:
-        """Whether the history of these calls gets the answer that is wanted, and its part of the witness is
+        """Returns whether the history of these calls gets the wanted answer, and its part of the witness is
         valid."""
         if not kept.issuperset(self.wanted.calls):
             return False
@@ -134,19 +134,19 @@ class Shrinker:
         return self.read_answer(self.program.answer(text), kept) == self.wanted
 
     def keep(self, kept: Set[int]) -> bool:
-        """Keeps these calls alone, if there are fewer of them and the answer is the same."""
+        """Keeps only these calls, if they are fewer and the answer is the same."""
         if len(kept) < len(self.kept) and self.gets_the_same(kept):
             self.kept = kept
             return True
         return False
 
     def leave_out(self, numbers: Iterable[int]) -> bool:
-        """Leaves out calls, if the answer is the same without them."""
+        """Removes calls, if the answer is the same without them."""
         return self.keep(self.kept.difference(numbers))
 
     def shrink(self) -> None:
-        """Leaves out what can be left out: all but a window, documents, what came later, then calls by many
-        and by one."""
+        """Removes what it can: all but a window, then documents, then later calls, then many calls at a time,
+        then single calls."""
         self.keep_a_window()
         named = {self.calls[it].id for it in self.wanted.calls}
         self.leave_out([it for it in self.kept if self.calls[it].id not in named])
@@ -157,15 +157,14 @@ class Shrinker:
             size = max(1, size // 2)
 
     def last_line(self) -> int:
-        """The last line of the calls that are named."""
+        """Returns the last line of the calls that the answer names."""
         named = [self.calls[it] for it in self.wanted.calls]
         return max(it.line if it.ending is None else it.ending for it in named)
 
     def keep_a_window(self) -> None:
-        """Keeps the named calls with the writers of what they show, or these with a window of the calls
-        before the last of them, the smallest that gets the same answer: of their documents, or of all. So the
-        program never reads most of a long history again.
-        """
+        """Keeps the named calls and the writers of what they show, or these with the smallest window of
+        preceding calls that gets the same answer: of the same documents, or of all. So the program never
+        reads most of a long history again."""
         makers = [self.maker_of(self.calls[it]) for it in self.wanted.calls]
         base = {*self.wanted.calls, *(it for it in makers if it is not None)}
         if self.keep(base):
@@ -182,8 +181,8 @@ class Shrinker:
             size *= WINDOW_FACTOR
 
     def closed(self, base: Set[int], window: Sequence[ParsedCall], beginnings: Beginnings) -> Set[int]:
-        """The calls of the base, those that made the documents which are there when a window begins, and the
-        calls of the window that stand on no write outside of these."""
+        """Returns the base calls, those that created the documents that exist when the window begins, and the
+        calls of the window that don't depend on a write outside of these."""
         makers = (beginnings.maker_at(id, window[0].line) for id in {it.id for it in window})
         kept = base.union(it for it in makers if it is not None)
         inside = kept.union(it.number for it in window)
@@ -193,12 +192,12 @@ class Shrinker:
         return inside.difference(self.with_readers(outside, inside) - kept)
 
     def maker_of(self, call: ParsedCall) -> Optional[int]:
-        """The number of the call whose reply says that it made the version on which a call stands."""
+        """Returns the number of the call that wrote the version on which a call depends, by its reply."""
         return None if call.stands_on is None else self.makers.get(call.stands_on)
 
     def with_readers(self, numbers: Iterable[int], among: Set[int]) -> Set[int]:
-        """The calls with all that stand on what they made, and so on: without those these would show what
-        nobody wrote."""
+        """Returns the calls with all that depend on what they wrote, and so on: without them those would show
+        values that nobody wrote."""
         found: Set[int] = set()
         left = list(numbers)
         while left:
@@ -210,8 +209,8 @@ class Shrinker:
         return found
 
     def leave_out_pieces(self, size: int) -> bool:
-        """Tries to leave out each so many calls, in the order in which they stand, the last ones first; tells
-        whether any are gone."""
+        """Tries to remove each piece of `size` calls, the last ones first; returns whether any was
+        removed."""
         is_any_gone = False
         order = [it.number for it in self.recorded.in_order(self.kept)]
         for start in range(len(order) - 1, -1, -size):
@@ -227,44 +226,43 @@ class Shrinker:
 
 
 def program_at_hand() -> str:
-    """The program: that of the checkout in which the command is run, else the one on the path."""
+    """Returns the program: `./casbench` in a checkout, else the one in PATH."""
     if os.access("./casbench", os.X_OK):
-        # (the script tells which program it runs, and the program itself has no such word)
+        # (the script prints which program it runs; the program itself has no such option)
         ran = subprocess.run(
             ["./casbench", "--program"], stdout=subprocess.PIPE, stderr=subprocess.DEVNULL, text=True
         )
         return ran.stdout.strip() if ran.returncode == 0 else "./casbench"
     found = shutil.which("casbench")
     if found is None:
-        raise ShrinkError("there is no casbench here or on the path: name it by --program")
+        raise ShrinkError("there is no ./casbench, and none in PATH: name one with --program")
     return found
 
 
 def parse_arguments(arguments: Optional[Sequence[str]]) -> argparse.Namespace:
-    """Reads the arguments of the command; without any, those of the process."""
+    """Parses the arguments; those of the process if there are none."""
     parser = argparse.ArgumentParser(
-        description="Cuts a history down to few calls that get the same answer from casbench, and prints it."
+        description="Reduces a history to a few calls that get the same answer from casbench, and prints it."
     )
     add = parser.add_argument
     add("file", help="the history")
-    add("--program", help="the casbench that is asked (./casbench, or that on the path)")
-    add("--rule-out", action="store_true", help="as for a check")
+    add("--program", help="the casbench program to check with (./casbench, else the one in PATH)")
+    add("--rule-out", action="store_true", help="check with --rule-out")
     add_reading_options(add)
     add(
         "--witness",
-        help="a witness of the history, which shows that a no is a false alarm: its part of the calls that "
-        "are left stays verified",
+        help="a witness of the history, which shows that a no is a false alarm; the part of it for the calls "
+        "that are left stays valid",
     )
-    add("--few-witness", help="a file that this part is written to, and must not be there")
+    add("--few-witness", help="the file to write the reduced witness to; must not exist")
     setting = parser.parse_args(arguments)
     if setting.few_witness and not setting.witness:
-        parser.error("--few-witness is a part of the witness that --witness names")
+        parser.error("--few-witness needs --witness")
     return setting
 
 
 def refuse_as_output(history: BinaryIO) -> None:
-    """Refuses a history that standard output goes to, by whatever name it was opened: what is written would
-    be written into it."""
+    """Refuses a history that is also the standard output, by whatever name: it would be overwritten."""
     its = os.fstat(history.fileno())
     if stat.S_ISREG(its.st_mode) and os.path.samestat(its, os.fstat(sys.stdout.fileno())):
         raise ShrinkError(f"{history.name}: the history would be overwritten")
@@ -277,7 +275,7 @@ def write(text: bytes) -> None:
 
 
 def read_file(path: Optional[str]) -> Optional[bytes]:
-    """The bytes of a file, if one is named."""
+    """Returns the bytes of a file, if one is named."""
     if path is None:
         return None
     with open(path, "rb") as file:
@@ -285,8 +283,8 @@ def read_file(path: Optional[str]) -> Optional[bytes]:
 
 
 def main(arguments: Optional[Sequence[str]] = None) -> int:
-    """Cuts down by the words given, and returns the exit status: 0, or 1 if there is nothing to cut down, or
-    it can't be written."""
+    """Reduces a history, and returns the exit status: 0, or 1 if there is nothing to reduce, or it can't be
+    written."""
     setting = parse_arguments(arguments)
     try:
         program = Program(setting.program or program_at_hand(), reading_of(setting), is_ruling_out(setting))

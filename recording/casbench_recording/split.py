@@ -1,13 +1,12 @@
-"""Splits a history text by shard, for histories of more events than one check takes.
+"""Splits a history text by shard, for histories with more events than one check takes.
 
     python3 -m casbench_recording.split carts.ndjson parts
 
-Writes parts/shard-0.ndjson and so on, one file for each shard that a call names. Each line goes, as it stands
-and in its order, to the file of its call's shard. So a part is a history text itself, and the history is
-right exactly where each part is (docs/RECORDING.md). What the parts can't show by themselves is looked at
-here: that each ending is of a call that is open, and that no document is on two shards. The folder has its
-name only once all lines are in it: where one can't be given to a shard, or can't be written, or the split is
-interrupted, there is none.
+Writes parts/shard-0.ndjson and so on, one file for each shard. Each line is copied, in order, to the file of
+its call's shard, so that each file is a history text. The history is correct if and only if each of them is
+(docs/RECORDING.md). What they can't show is checked here: each ending is that of an open call, and no
+document is on two shards. The directory gets its name when all lines are in it; after an error or an
+interruption there is none.
 """
 
 import argparse
@@ -21,15 +20,15 @@ from typing import Any, BinaryIO, Dict, Iterable, Iterator, Optional, Sequence
 
 
 class Shards:
-    """Tells the shard of each line, line after line."""
+    """Finds the shard of each line, in order."""
 
     def __init__(self) -> None:
         self.of_open_calls: Dict[int, int] = {}
         self.of_documents: Dict[str, int] = {}
 
     def of_line(self, event: Dict[str, Any]) -> int:
-        """The shard of an event's call. Raises ValueError, KeyError or TypeError where it is no event at this
-        place."""
+        """Returns the shard of an event's call. Raises ValueError, KeyError or TypeError if the event is
+        invalid here."""
         number = event["n"]
         if event["e"] != "call":
             return self.of_open_calls.pop(number)
@@ -43,7 +42,7 @@ class Shards:
 
 
 class SplitError(Exception):
-    """Why a history can't be split, in words for the operator."""
+    """Why a history can't be split, for the operator."""
 
 
 def split(lines: Iterable[bytes], folder: str) -> None:
@@ -65,10 +64,10 @@ def split(lines: Iterable[bytes], folder: str) -> None:
 
 @contextlib.contextmanager
 def named_at_last(folder: str) -> Iterator[str]:
-    """A new folder beside the one that is named, whose name it gets at the end of the block; after a fault
-    nothing is left of it.
+    """A temporary directory beside the named one, which is renamed at the end of the block; if the block
+    fails it is removed.
 
-    What has the name already is refused, and left alone.
+    A directory that exists is refused, and left as it is.
     """
     folder = folder.rstrip("/") or folder
     if os.path.lexists(folder):
@@ -84,12 +83,11 @@ def named_at_last(folder: str) -> Iterator[str]:
 
 
 def main(arguments: Optional[Sequence[str]] = None) -> int:
-    """Splits the history that is named into files of the folder that is named, which is made. Returns the
-    exit status."""
+    """Splits a history into the files of a new directory. Returns the exit status."""
     parser = argparse.ArgumentParser(description="Splits a history by shard.")
-    parser.add_argument("history", metavar="HISTORY", help="the history, a file")
+    parser.add_argument("history", metavar="HISTORY", help="the history")
     parser.add_argument(
-        "folder", metavar="FOLDER", help="the folder that is made, with a file for each shard"
+        "folder", metavar="FOLDER", help="the directory to create, with one file for each shard"
     )
     setting = parser.parse_args(arguments)
     try:

@@ -18,7 +18,7 @@ from typing import Any, Dict, List, NamedTuple, Optional, Sequence, Tuple
 SUFFIX, OF_A_VERDICT = ".ndjson", ".verdict"
 
 SEVERITY = (3, 4, 5, 1, 2, 6, 0)
-"""The exit statuses of checks, the gravest first: not judged (3, 4, 5), not explained, refused, too few
+"""The exit statuses of checks, the most severe first: not judged (3, 4, 5), not explained, refused, too few
 calls, explained."""
 
 NOT_JUDGED, NOT_EXPLAINED, REFUSED, TOO_FEW, EXPLAINED = 4, 1, 2, 6, 0
@@ -31,14 +31,14 @@ MEMBERS = {
     "refuted": ("kind", "calls", "event", "call", "before"),
     "refused": ("line", "cause"),
 }
-"""The members that the line of an answer has, in order."""
+"""The members of an answer's line, in order."""
 
 COUNTS = ("docs", "calls", "left_out", "gets")
-"""The counts that the line of a `yes` has, in order."""
+"""The counts of a `yes`, in order."""
 
 
 class Verdict(NamedTuple):
-    """The result of the check of a history: the exit status and the answer, or why there is no answer."""
+    """The result of a check: the exit status and the answer, or why there is no answer."""
 
     file: str
     status: int
@@ -47,7 +47,7 @@ class Verdict(NamedTuple):
 
     @property
     def word(self) -> str:
-        """The answer's first word."""
+        """The first word of the answer."""
         return str(self.answer["answer"]) if not self.fault else "not judged"
 
     @property
@@ -65,18 +65,18 @@ class Verdict(NamedTuple):
 
 
 def counts_of(answer: Dict[str, Any]) -> Dict[str, int]:
-    """The counts of a `yes`, in order."""
+    """Returns the counts of a `yes`, in order."""
     return {key: answer["counts"][key] for key in COUNTS if key in answer["counts"]}
 
 
 def line_of(word: str, values: Dict[str, Any]) -> str:
-    """The word of an answer with its values."""
+    """Returns the line of an answer, from its word and its values."""
     shown = {key: ",".join(map(str, it)) if isinstance(it, list) else it for key, it in values.items()}
     return " ".join([word, *(f"{key}={it}" for key, it in shown.items())])
 
 
 def verdict_of(history: str) -> Verdict:
-    """The verdict that a job has written beside a history."""
+    """Reads the verdict beside a history."""
     file = os.path.basename(history)
     try:
         if os.stat(history + OF_A_VERDICT).st_mtime_ns < os.stat(history).st_mtime_ns:
@@ -98,7 +98,7 @@ def verdict_of(history: str) -> Verdict:
 
 
 def answer_of(status: int, printed: Sequence[str]) -> Optional[Dict[str, Any]]:
-    """The object that a check printed, or None if no check with this exit status prints it."""
+    """Returns the object that a check printed, or None if no check with this exit status prints it."""
     try:
         answer = json.loads("\n".join(printed))
         word = answer["answer"]
@@ -113,7 +113,7 @@ def answer_of(status: int, printed: Sequence[str]) -> Optional[Dict[str, Any]]:
 
 
 def together(verdicts: Sequence[Verdict], at_least: int) -> Tuple[int, str]:
-    """The status of all verdicts, which is that of the gravest one, and the line for all."""
+    """Returns the combined exit status, which is the most severe one, and the line for all verdicts."""
     if not verdicts:
         return NOT_JUDGED, "not judged: there is no history"
     if len({json.dumps(it.answer.get("reading"), sort_keys=True) for it in verdicts if not it.fault}) > 1:
@@ -138,30 +138,30 @@ def together(verdicts: Sequence[Verdict], at_least: int) -> Tuple[int, str]:
 
 
 def status_fits(word: str, status: int) -> bool:
-    """Whether a check with this status may have this answer."""
+    """Returns whether a check with this status may have this answer."""
     return (word == "not judged") == (status in (3, 4, 5)) and (word == "refused") == (status == REFUSED)
 
 
 def histories_of(folder: str) -> List[str]:
-    """The histories of a folder, in the order of the bytes of their names, in which jobs count them."""
+    """Returns the histories of a directory, ordered by the bytes of their names, as the jobs number them."""
     names = [it.name for it in os.scandir(folder) if it.name.endswith(SUFFIX)]
     return [os.path.join(folder, it) for it in sorted(names, key=os.fsencode)]
 
 
 def main() -> int:
-    """Prints the verdicts that aren't `yes`, and then that of all; returns the status of the gravest."""
-    parser = argparse.ArgumentParser(description="Puts the verdicts of a folder's histories together.")
+    """Prints the verdicts that aren't `yes`, and then the combined one; returns the most severe status."""
+    parser = argparse.ArgumentParser(description="Combines the verdicts on the histories of a directory.")
     parser.add_argument(
         "folder",
         metavar="DIR",
-        help="the folder of the histories, *.ndjson, and of their verdicts, *.ndjson.verdict",
+        help="the directory of the histories (*.ndjson) and their verdicts (*.ndjson.verdict)",
     )
     parser.add_argument(
         "--at-least",
         type=int,
         default=0,
         metavar="CALLS",
-        help="of all histories together; a yes with fewer has status 6",
+        help="minimum number of calls of all histories together; with fewer, a yes has status 6",
     )
     options = parser.parse_args()
     sys.stdout.reconfigure(errors="backslashreplace")  # type: ignore[attr-defined]

@@ -1,10 +1,9 @@
-"""Checks a witness without casbench; and the functions with which a recorder makes one from the log of its
-store.
+"""Checks a witness without casbench. Recorders import from here what makes a witness from the log of a store.
 
     python3 -m casbench_recording.witness check HISTORY WITNESS
 
-prints what `casbench verify` prints and, if the witness isn't valid, a sentence about the calls. It takes the
-options of a reading, such as `--profile opensearch`.
+prints what `casbench verify` prints and, if the witness isn't valid, a sentence that names the calls. It
+takes the options of a reading, such as `--profile opensearch`.
 """
 
 import argparse
@@ -18,23 +17,23 @@ __all__ = ["StoreLog", "checked", "witness_by_log"]
 
 
 def main(arguments: Optional[Sequence[str]] = None) -> int:
-    """Checks by the words given, and returns the exit status: 0 if the witness is valid, 1 if it isn't, 2 if
-    a text is refused."""
+    """Checks a witness, and returns the exit status: 0 if it is valid, 1 if it isn't, 2 if a text is
+    refused."""
     parser = argparse.ArgumentParser(
-        description="Checks a witness without casbench, by a checker that shares nothing with it."
+        description="Checks a witness with a checker that shares no code with casbench."
     )
-    check = parser.add_subparsers(required=True).add_parser("check", help="says whether a witness is valid")
+    check = parser.add_subparsers(required=True).add_parser("check", help="check whether a witness is valid")
     check.add_argument("history", help="the history text")
     check.add_argument("witness", help="the witness text")
     add_reading_options(check.add_argument)
     setting = parser.parse_args(arguments)
     try:
         with open(setting.history, "rb") as history, open(setting.witness, "rb") as witness:
-            status, told = checked(history.read(), witness.read(), reading_of(setting))
+            status, output = checked(history.read(), witness.read(), reading_of(setting))
     except OSError as fault:
         print(f"witness: {fault}", file=sys.stderr)
         return 4
-    print(told)
+    print(output)
     return status
 
 

@@ -1,6 +1,7 @@
-"""History texts: written as calls are made, read back, cut into parts, and checked against witnesses.
+"""History texts: writing them as calls are made, parsing them, cutting them into parts, and checking
+witnesses of them.
 
-Recorders import from here: `History` and what it takes and raises.
+Recorders import `History`, its arguments and its exceptions from here.
 """
 
 from .format import MOST_EVENTS, CallError, Loss, Operation, Pair

@@ -1,7 +1,7 @@
-"""A history for each shard, for recordings that one history can't hold.
+"""One history for each shard, for recordings that are too long for a single history.
 
-A history is linearizable if and only if the part of each shard is. So each shard has a file, under a lock of
-its own, that is checked by itself. `continuing` cuts a recording by its calls.
+A history is linearizable if and only if the part of each shard is. So each shard has its own file, with its
+own lock, which is checked alone. `continuing` splits a recording by the number of calls instead.
 """
 
 import contextlib
@@ -16,7 +16,7 @@ from .writing import Histories, History, HistoryError
 
 
 class Parts(Histories):
-    """The histories of a folder, which is made: `shard-3.ndjson` of a shard."""
+    """The histories of a directory, which is created: `shard-3.ndjson` is that of shard 3."""
 
     def __init__(
         self, folder: str, most_events: int = MOST_EVENTS, clock: Callable[[], float] = time.time
@@ -33,7 +33,7 @@ class Parts(Histories):
 
     @property
     def histories(self) -> Tuple[History, ...]:
-        """The histories that were begun."""
+        """The histories that exist so far."""
         with self._lock:
             return tuple(self._histories.values())
 
@@ -41,7 +41,7 @@ class Parts(Histories):
         self._most_events = min(self._most_events, reading.most_events)
 
     def of_shard(self, shard: int) -> History:
-        """The history of a shard's calls, begun where there is none yet."""
+        """Returns the history of a shard, which is created if there is none yet."""
         with self._lock:
             if shard not in self._histories:
                 path = os.path.join(self.folder, f"shard-{shard}.ndjson")
@@ -49,7 +49,7 @@ class Parts(Histories):
             return self._histories[shard]
 
     def end(self) -> None:
-        """Ends each history. Where none has a call no file is left, and so no folder."""
+        """Ends each history. If none has a call, neither files nor the directory are left."""
         for history in self.histories:
             history.end()
         with contextlib.suppress(OSError):

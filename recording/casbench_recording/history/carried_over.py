@@ -1,14 +1,14 @@
-"""What the next part of a recording states of a document's past, so that whatever is refuted of the part is
-true of the whole.
+"""What the next part of a recording states about a document's past, so that everything that is refuted about
+the part is true of the whole.
 
-A recording without end is cut into parts, each a history in its own right. A document moves from one part to
-the next at a moment of its own. Its next part begins with two lines that state the last version known of it,
-followed by its lost writes that may still take effect, lost again. If an order explains the whole recording,
-one explains each part; docs/RECORDING.md says why.
+A recording without a limit is cut into parts, each of which is a complete history. Each document moves from
+one part to the next at its own time. In its next part it starts with two lines that state its last known
+version, followed by its lost writes that may still take effect, again as lost. If an order explains the whole
+recording, one explains each part: docs/RECORDING.md says why.
 
-A reading may take replies to say less. If any copy may answer a get, what it shows isn't known to last. If
-writes are repeated, a lost one may take effect again after it was seen. What was answered is over: the store
-performs a write again before it answers, and so it does what a conflict hides.
+A reading may take replies to say less. If any copy may answer a get, a version that it shows may be lost
+again. If writes may be repeated, a lost write may take effect again after it was seen. An answered write is
+over: the store repeats a write before it answers, and so does what a conflict hides.
 """
 
 import json
@@ -31,10 +31,10 @@ class Version(NamedTuple):
 
 
 class ReplyKind(Enum):
-    """What a reply says became of a call."""
+    """What a reply means for its call."""
 
-    WRITTEN = "the write took the pair that the reply shows"
-    FOUND = "the get found the version that the reply shows"
+    WRITTEN = "the write was performed with the pair in the reply"
+    FOUND = "the get found the version in the reply"
     MISSING = "the get found no document"
     REFUSED = "the write was answered with a conflict"
     UNCHANGED = "the update's last attempt changed nothing"
@@ -42,14 +42,14 @@ class ReplyKind(Enum):
 
 
 class InterpretedReply(NamedTuple):
-    """What a reply says of a call: the outcome, and the version that it shows, if any."""
+    """A reply as its kind, and the version that it shows, if any."""
 
-    outcome: ReplyKind
+    kind: ReplyKind
     version: Optional[Version] = None
 
 
 read_json = json.JSONDecoder().decode
-"""The value of a JSON text."""
+"""Returns the value of a JSON text."""
 
 MISSING, REFUSED, UNCHANGED, UNKNOWN = (
     InterpretedReply(it)
@@ -63,15 +63,14 @@ RESULTS_OF_A_WRITE = {
     ("delete", 200, "deleted"),
     ("delete", 404, "not_found"),
 }
-"""The operation, the status and the result of each reply to a write that was performed."""
+"""The operation, the status and the result of each reply to a performed write."""
 
 
 def interpret_reply(operation: Operation, status: int, text: Optional[str]) -> InterpretedReply:
-    """What a reply with this status says, and the JSON text of its body: the row of the reply table of
+    """Interprets a reply by its status and the JSON text of its body, according to the reply table of
     docs/FORMATS.md."""
     try:
-        # (but for a zero with a sign the JSON reader finds the same whole numbers, and is quicker without a
-        # look at each)
+        # (except for -0 the plain JSON parser returns the same integers, and it is faster)
         body = None if text is None else value_of(text) if "-0" in text else read_json(text)
     except (ValueError, RecursionError):
         return UNKNOWN
@@ -90,14 +89,14 @@ def interpret_reply(operation: Operation, status: int, text: Optional[str]) -> I
 def interpret_ending(
     operation: Operation, ending: Union[Tuple[int, Optional[str]], Loss]
 ) -> Optional[InterpretedReply]:
-    """What an ending says of a call; None of one that was not performed."""
+    """Interprets the ending of a call; None if the call was not performed."""
     if not isinstance(ending, Loss):
         return interpret_reply(operation, *ending)
     return {Loss.UNKNOWN: UNKNOWN, Loss.OVER: UNCHANGED, Loss.VOID: None}[ending]
 
 
 def interpret_get(status: int, body: Dict[str, object]) -> InterpretedReply:
-    """The same of a get."""
+    """Interprets a reply to a get."""
     pair, source = pair_if(body.get("_primary_term"), body.get("_seq_no")), body.get("_source")
     if status == 200 and body.get("found") is True and pair is not None and isinstance(source, dict):
         value = source.get("k")
@@ -111,88 +110,90 @@ def interpret_get(status: int, body: Dict[str, object]) -> InterpretedReply:
 
 @dataclass(frozen=True)
 class Beginning:
-    """What a document's next part begins with: the last version known, and the writes that may still take
-    effect, lost again."""
+    """What a document starts with in its next part: the last known version, and the writes that may still
+    take effect, again as lost."""
 
     version: Optional[Version]
     lost: List[Operation]
 
     @property
     def calls(self) -> int:
-        """How many calls of a history it takes."""
+        """How many calls of the part it takes."""
         return (self.version is not None) + len(self.lost)
 
 
 class DocumentPast:
-    """What of a document's past its later calls depend on, in a reading. It holds as much as may still count,
-    and not every call."""
+    """What later calls of a document depend on, in a reading. It keeps what may still matter, and not every
+    call."""
 
     __slots__ = ("version", "_reading", "_open", "_lost_blind", "_lost_conditional", "_refused", "_refusals")
 
     def __init__(self, reading: Reading = STRICT) -> None:
-        # the version with the greatest pair that a reply showed, of those that last
+        # the lasting version with the greatest pair that a reply showed
         self.version: Optional[Version] = None
         self._reading = reading
-        # (what is empty takes no memory of its own: there are many documents)
-        # the calls that are open, of each how many refusals had been taken when it was made
+        # (there are many documents, so empty members share one object)
+        # the open calls, each with the number of refusals before it was made
         self._open: Optional[Dict[Call, int]] = None
-        # writes of unknown outcome that may still take effect: those without a condition, and those with one
+        # writes of unknown outcome that may still take effect, without a condition and with one
         self._lost_blind: Sequence[Operation] = ()
         self._lost_conditional: Sequence[Operation] = ()
-        # the last of the writes that were answered as ones that changed nothing, and may have been performed
-        # all the same, and how many there were in all
+        # the last writes that were answered with a refusal and may have been performed all the same, and the
+        # number of all of them
         self._refused: Sequence[Operation] = ()
         self._refusals = 0
 
     @property
     def is_at_rest(self) -> bool:
-        """Whether none of the document's calls is open."""
+        """Whether no call of the document is open."""
         return not self._open
 
     @property
     def is_blank(self) -> bool:
-        """Whether nothing is known of it: no call is open, no version is known, and no write was lost."""
+        """Whether nothing is known of the document: no call is open, no version is known, and no write was
+        lost."""
         return self.version is None and self.is_at_rest and not self._undecided()
 
     @property
     def open_calls(self) -> List[Call]:
-        """The calls that are open."""
+        """The open calls."""
         return list(self._open or ())
 
     def called(self, call: Call) -> None:
-        """Takes a call."""
+        """Adds a call."""
         if self._open is None:
             self._open = {}
         self._open[call] = self._refusals
 
-    def ended(self, call: Call, told: Optional[InterpretedReply]) -> None:
-        """Takes what became of an open call; None if it was not performed."""
+    def ended(self, call: Call, reply: Optional[InterpretedReply]) -> None:
+        """Ends an open call with this interpretation; None if it was not performed."""
         assert self._open is not None
         operation, refusals = call.operation, self._open.pop(call)
         if not self._open:
             self._open = None
-        if told is None:
+        if reply is None:
             return
-        if told.version is not None:
-            if told.outcome is ReplyKind.WRITTEN or self._reading.gets is Gets.LAST:
-                self._shown(told.version, told.outcome, self._refusals - refusals)
+        if reply.version is not None:
+            if reply.kind is ReplyKind.WRITTEN or self._reading.gets is Gets.LAST:
+                self._shown(reply.version, reply.kind, self._refusals - refusals)
         elif (
-            told is REFUSED
+            reply is REFUSED
             and self._may_be_performed(operation)
-            or told is UNCHANGED
+            or reply is UNCHANGED
             and self._may_be_performed_before(operation)
         ):
             self._refused = appended(self._refused, operation)
             self._refusals += 1
-        elif told is UNKNOWN and operation.op != "get" and operation.condition is None:
+        elif reply is UNKNOWN and operation.op != "get" and operation.condition is None:
             self._lost_blind = appended(self._lost_blind, operation)
-        elif told is UNKNOWN and operation.op != "get":
+        elif reply is UNKNOWN and operation.op != "get":
             self._lost_conditional = appended(self._lost_conditional, operation)
 
     def _may_be_performed(self, refused: Operation) -> bool:
-        """Whether a write that was just answered with a conflict may have been performed behind the version.
+        """Returns whether a write that was just answered with a conflict may have been performed after the
+        last version.
 
-        A create of a document that is there takes a delete before it, which is not answered either.
+        A create of an existing document needs a delete before it, which isn't answered either.
         """
         if self._reading.conflicts is Conflicts.PLAIN:
             return False
@@ -201,20 +202,19 @@ class DocumentPast:
         return any(it.op == "delete" and self._may_still_follow(it) for it in self._undecided())
 
     def _may_be_performed_before(self, unchanged: Operation) -> bool:
-        """Whether an update whose last attempt changed nothing may have been performed by an earlier one,
-        behind the version."""
+        """Returns whether an update whose last attempt changed nothing may have been performed by an earlier
+        attempt, after the last version."""
         is_tried_again = (
             self._reading.writes is Writes.REPEATED or self._reading.conflicts is not Conflicts.PLAIN
         )
         return is_tried_again and self._may_still_follow(unchanged)
 
     def _may_still_follow(self, operation: Operation) -> bool:
-        """Whether a write may take effect after the last version."""
+        """Returns whether a write may take effect after the last version."""
         return self.version is None or may_follow(operation, self.version)
 
     def _undecided(self) -> List[Operation]:
-        """The writes of which it isn't known whether they were performed or will be, and the gets that are
-        open."""
+        """Returns the writes of unknown outcome, and the open calls."""
         return [
             *self._lost_blind,
             *self._lost_conditional,
@@ -222,24 +222,23 @@ class DocumentPast:
             *self._refused,
         ]
 
-    def _shown(self, version: Version, outcome: ReplyKind, since: int) -> None:
-        """Takes a version that lasts and that the reply to a call shows, with how many refusals were taken
+    def _shown(self, version: Version, kind: ReplyKind, since: int) -> None:
+        """Adds a version that lasts and is shown by the reply to a call; `since` is the number of refusals
         since the call was made.
 
-        A write that was answered before as one that changed nothing takes no pair past that version, so it is
-        dropped.
+        A write that was answered before with a refusal takes no pair after that version, so it is dropped.
         """
         if len(self._refused) > since:
             self._refused = self._refused[len(self._refused) - since :] or ()
         if self.version is not None and version.pair <= self.version.pair:
             return
-        if outcome is ReplyKind.FOUND:
+        if kind is ReplyKind.FOUND:
             self._drop_writer_of(version)
         self.version = version
         self._lost_conditional = [it for it in self._lost_conditional if may_follow(it, version)] or ()
 
     def _drop_writer_of(self, version: Version) -> None:
-        """Drops the lost write that took a version which a get found, if only one can have: it took effect,
+        """Drops the lost write of a version that a get found, if there is only one candidate: it took effect,
         and won't again."""
         undecided = [it for it in self._undecided() if it.op in WRITES_A_VALUE and it.value == version.value]
         writers = [it for it in undecided if may_precede(it, version)]
@@ -250,10 +249,10 @@ class DocumentPast:
             self._lost_conditional = [it for it in self._lost_conditional if it is not writers[0]] or ()
 
     def beginning(self) -> Beginning:
-        """What the document's next part begins with.
+        """Returns what the document starts with in its next part.
 
-        Calls that are open are among the lost ones: a document may also move before it is at rest. Then
-        replies to those calls belong to neither part.
+        Open calls are among the lost ones, since a document may move before it is at rest. Replies to those
+        calls belong to neither part.
         """
         return Beginning(
             self.version, [it for it in self._undecided() if it.op != "get" and self._may_still_follow(it)]
@@ -261,7 +260,7 @@ class DocumentPast:
 
 
 def appended(operations: Sequence[Operation], operation: Operation) -> List[Operation]:
-    """The operations with one more."""
+    """Returns the operations with one more."""
     if not isinstance(operations, list):
         return [*operations, operation]
     operations.append(operation)
@@ -269,12 +268,11 @@ def appended(operations: Sequence[Operation], operation: Operation) -> List[Oper
 
 
 def may_follow(operation: Operation, version: Version) -> bool:
-    """Whether a write may take effect after a version was written. One whose condition is a lesser pair
-    can't."""
+    """Returns whether a write may take effect after this version: not if its condition is a smaller pair."""
     return operation.condition is None or operation.condition >= version.pair
 
 
 def may_precede(operation: Operation, version: Version) -> bool:
-    """Whether a write may have taken a version's pair. One whose condition is that pair or a greater one
-    can't."""
+    """Returns whether a write may have written this version: not if its condition is the version's pair or a
+    greater one."""
     return operation.condition is None or operation.condition < version.pair

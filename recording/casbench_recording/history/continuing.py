@@ -1,10 +1,10 @@
-"""A recording without end: a directory of parts, each a history in its own right, on the same index.
+"""A recording without a limit: a directory of parts on the same index, each of which is a complete history.
 
-A part takes documents until it has so many calls. From then on each document moves to the next part with its
-first call while no other call of it is open, and its next part begins with what `carried_over` states of it.
-If a part is full a document moves while calls of it are open: they are lost in that part, and lost again in
-the next one. A part is finished when it takes no more documents and none of its calls is open; its name has
-the suffix `.growing` until then.
+A part takes documents until it has a number of calls. After that each document moves to the next part with
+its next call, once no other call of it is open; it starts there with what `carried_over` states about it. If
+a part is full, a document moves with open calls: they are lost in that part, and lost again in the next one.
+A part is finished when it takes no more documents and none of its calls is open. Until then its name has the
+suffix `.growing`.
 """
 
 import argparse
@@ -19,21 +19,21 @@ from .readings import STRICT, Reading
 from .writing import Call, CallWriter, Ended, Ending, History, HistoryError
 
 PART = 400_000
-"""With how many calls a part takes no more documents, if nothing else is said."""
+"""The default number of calls after which a part takes no more documents."""
 
 GROWING = ".growing"
 """The suffix of a part that isn't finished."""
 
 MOST_GROWING = 8
-"""How many parts may grow at once. Beyond that the oldest is finished as if it were full."""
+"""How many parts may be unfinished at a time. Then the oldest is finished as if it were full."""
 
 MOST_LOST = 1000
-"""With how many lost writes that may still take effect a document moves at most."""
+"""With how many lost writes that may still take effect a document can move."""
 
 
 class TooManyLost(HistoryError):
-    """A document has more lost writes than its next part can begin with, so it is recorded no longer. No line
-    of a call was written."""
+    """A document has more lost writes than its next part can start with, so it isn't recorded any more. No
+    line of the call was written."""
 
     def __init__(self, id: str) -> None:
         super().__init__(
@@ -43,15 +43,15 @@ class TooManyLost(HistoryError):
 
 
 class GrowingPart:
-    """A part that grows."""
+    """A part that isn't finished."""
 
     def __init__(self, path: str, most_calls: int, most_events: int, clock: Callable[[], float]) -> None:
         self.path = path
         self.history = History(path + GROWING, most_events, clock)
-        # whether it takes no more documents, and has each that is at rest leave
+        # whether it takes no more documents, and each document at rest leaves it
         self.is_closed = False
-        # how many more calls it takes documents with, beside those with which they begin; and calls whose
-        # lines are written next
+        # how many more calls it has before it takes no more documents (without those that documents start
+        # with); and calls whose lines are written next
         self._left = most_calls
         self._waiting: "List[WholeCall]" = []
 
@@ -62,7 +62,7 @@ class GrowingPart:
 
     @property
     def is_done(self) -> bool:
-        """Whether nothing will be written to it again."""
+        """Whether nothing will be written to it any more."""
         return self.is_closed and not self._waiting and not self.history.open_calls
 
     def call(self, operation: Operation) -> Call:
@@ -72,7 +72,7 @@ class GrowingPart:
         return call
 
     def take(self, call: "WholeCall") -> None:
-        """Takes a call, whose line `write` writes."""
+        """Adds a call, whose line is written by `write`."""
         self._waiting.append(call)
         self._count()
 
@@ -82,14 +82,14 @@ class GrowingPart:
         self.is_closed = self.is_closed or self._left <= 0 or self.room <= 0
 
     def write(self) -> None:
-        """Writes the lines of the calls that were taken."""
+        """Writes the lines of the calls that were added."""
         waiting, self._waiting = self._waiting, []
         written = self.history.call_all([it.operation for it in waiting]) if waiting else []
         for whole, own in zip(waiting, written):
             whole.own = own
 
     def begin(self, id: str, shard: int, beginning: Beginning) -> None:
-        """Writes what a document begins with here."""
+        """Writes what a document starts with in this part."""
         version = beginning.version
         if version is not None and version.value is not None:
             self.history.call("index", id, version.value, shard=shard).indexed(version.pair, created=True)
@@ -99,8 +99,8 @@ class GrowingPart:
             self.history.lose(self.history.call_all(beginning.lost))
 
     def finish(self) -> None:
-        """Ends the history, in which calls that are open are lost, and gives it its name. Without a call
-        there is no file."""
+        """Ends the history, with open calls lost, and gives it its final name. Without a call there is no
+        file."""
         self._waiting.clear()
         try:
             self.history.end()
@@ -111,7 +111,7 @@ class GrowingPart:
 
 
 class ContinuedDocument:
-    """A document: its past, its shard, and the part that its calls go to."""
+    """A document: its past, its shard, and the part with its calls."""
 
     __slots__ = ("past", "shard", "part", "is_left")
 
@@ -119,11 +119,11 @@ class ContinuedDocument:
         self.past = DocumentPast(reading)
         self.shard = shard
         self.part: Optional[GrowingPart] = None
-        # whether it is recorded no longer
+        # whether it isn't recorded any more
         self.is_left = False
 
     def place(self) -> Optional[GrowingPart]:
-        """The part that its next call goes to, or None if it moves to another one first."""
+        """Returns the part of its next call, or None if it has to move first."""
         part = self.part
         if (
             part is None
@@ -136,7 +136,7 @@ class ContinuedDocument:
 
 
 class WholeCall(Call):
-    """A call, with its number in the whole recording: its document, and the part that its line is in."""
+    """A call with its number in the whole recording, its document, and the part with its line."""
 
     __slots__ = ("document", "part", "own")
 
@@ -151,21 +151,21 @@ class WholeCall(Call):
         super().__init__(history, number, operation)
         self.document = document
         self.part = part
-        # the call of the part, or None if it isn't written yet, or was lost there before its ending
+        # the call in the part, or None if it isn't written yet, or was lost there before its ending
         self.own: Optional[Call] = None
 
     @property
     def recorded(self) -> Optional[Call]:
-        """The call of the part, if its ending is recorded."""
+        """The call of the part, if its ending is recorded there."""
         return None if self.part.history.has_ended else self.own
 
 
 class Continuing(CallWriter):
-    """The parts of a directory, which is made, to be judged in a reading. Any thread may use it, as a
-    `History`.
+    """The parts of a recording, in a directory that is created, to be judged in a reading. Like a `History`,
+    it may be used by any thread.
 
-    The numbers of its calls are those of the whole recording; each part numbers its calls anew. Where a line
-    can't be written HistoryError is raised, as by a `History`.
+    The numbers of its calls are those of the whole recording; each part has its own numbers. If a line can't
+    be written, HistoryError is raised, as by a `History`.
     """
 
     def __init__(
@@ -177,20 +177,20 @@ class Continuing(CallWriter):
         clock: Callable[[], float] = time.time,
     ) -> None:
         super().__init__(folder)
-        # is told of each document that moves, with what its next part begins with, before its call there is
-        # returned
+        # called for each document that moves, with what it starts with in the next part, before the call
+        # there is returned
         self.on_move: Callable[[str, Beginning], object] = lambda id, beginning: None
         self._reading = reading
         self._most_events = min(most_events, reading.most_events)
         self._most_calls = min(part, self._most_events // 2)
         self._clock = clock
         self._documents: Dict[str, ContinuedDocument] = {}
-        # the calls that are open, by their numbers
+        # the open calls, by their numbers
         self._open: Dict[int, WholeCall] = {}
-        # (the last one is the newest)
+        # the unfinished parts, the newest one last
         self._growing: List[GrowingPart] = []
         self._count = 0
-        # what the next part's first line carries
+        # the notes for the first line of the next part
         self._notes: List[str] = []
         try:
             os.mkdir(folder)
@@ -205,13 +205,13 @@ class Continuing(CallWriter):
 
     @property
     def room(self) -> int:
-        """How many calls it takes at once."""
+        """How many calls it takes at a time."""
         return 0 if self.has_ended else self._most_events // 2
 
     # Calls
 
     def note(self, text: str) -> None:
-        """Puts a note on the next line of each part that grows, or of the next part."""
+        """Puts a note on the next line of each unfinished part, or of the next part."""
         with self._lock:
             for part in self._growing:
                 part.history.note(text)
@@ -219,7 +219,7 @@ class Continuing(CallWriter):
                 self._notes.append(text)
 
     def call_one(self, operation: Operation) -> Call:
-        """Writes the line of a call to the part that the document is in."""
+        """Writes the line of a call to the part of its document."""
         with self._lock:
             document, part = self._document(operation)
             part = part or self._move(operation.id, document)
@@ -229,7 +229,7 @@ class Continuing(CallWriter):
             return call
 
     def call_all(self, operations: Sequence[Operation]) -> List[Call]:
-        """Writes the lines of several calls, such as the items of a bulk request; none where CallError or
+        """Writes the lines of several calls, such as the items of a bulk request; none if CallError or
         TooManyLost is raised."""
         for it in operations:
             members_of_call(it)
@@ -241,8 +241,8 @@ class Continuing(CallWriter):
             return [*calls]
 
     def _document(self, operation: Operation) -> Tuple[ContinuedDocument, Optional[GrowingPart]]:
-        """The document of an operation, after a look whether it can be called, and the part that the call
-        goes to, unless the document moves."""
+        """Checks an operation; returns its document, and the part for the call, or None if the document has
+        to move."""
         if self.has_ended:
             raise Ended
         document = self._documents.get(operation.id)
@@ -259,13 +259,13 @@ class Continuing(CallWriter):
         return document, part
 
     def leave(self, ids: Sequence[str]) -> None:
-        """Forgets documents that are called no more. Their calls that are open may still end."""
+        """Forgets documents that get no more calls. Their open calls may still end."""
         with self._lock:
             for it in ids:
                 self._documents.pop(it, None)
 
     def forgets(self, id: str) -> bool:
-        """Forgets a document if nothing is known of it that another part would state; returns whether it
+        """Forgets a document if there is nothing that another part would state about it; returns whether it
         did."""
         with self._lock:
             document = self._documents.get(id)
@@ -275,8 +275,8 @@ class Continuing(CallWriter):
             return is_blank
 
     def _can_move(self, document: ContinuedDocument) -> bool:
-        """Whether another part can begin with the document. If it can't the document is recorded no
-        longer."""
+        """Returns whether another part can start with the document. If not, the document isn't recorded any
+        more."""
         beginning = document.past.beginning()
         document.is_left = len(beginning.lost) > MOST_LOST or beginning.calls >= self._most_events // 2
         if document.is_left:
@@ -284,14 +284,14 @@ class Continuing(CallWriter):
         return not document.is_left
 
     def _take(self, operation: Operation, document: ContinuedDocument) -> WholeCall:
-        """Takes a call, whose line is written next, into the part that the document is in now."""
+        """Adds a call to the current part of the document; its line is written later."""
         part = document.place() or self._move(operation.id, document)
         call = self._begin(operation, document, part)
         part.take(call)
         return call
 
     def _begin(self, operation: Operation, document: ContinuedDocument, part: GrowingPart) -> WholeCall:
-        """Counts a call, and keeps it as one that is open."""
+        """Counts a call, and keeps it as open."""
         call = WholeCall(self, self.calls, operation, document, part)
         self.calls += 1
         self._open[call.number] = call
@@ -310,8 +310,8 @@ class Continuing(CallWriter):
         return part
 
     def _lose_in_part(self, document: ContinuedDocument) -> None:
-        """Writes the document's open calls as lost in the part that it leaves: they may have read what only
-        the next part has."""
+        """Writes the document's open calls as lost in the part that it leaves: they may have read what is
+        only in the next one."""
         part = document.part
         calls = [self._open[it.number] for it in document.past.open_calls]
         if part is None or part.history.has_ended or not calls:
@@ -322,7 +322,7 @@ class Continuing(CallWriter):
             it.own = None
 
     def _newest(self, calls: int) -> GrowingPart:
-        """The newest part, which is begun if there is none with room for so many calls."""
+        """Returns the newest part; creates one if there is none with room for this number of calls."""
         newest = self._growing[-1] if self._growing else None
         if newest is not None and not newest.is_closed and newest.room >= calls:
             return newest
@@ -361,7 +361,7 @@ class Continuing(CallWriter):
             ends: Dict[WholeCall, Union[Reply, Loss]] = {}
             for it, ending in endings:
                 if it.number in self._open:
-                    # (of two endings of a call the first one counts)
+                    # (if a call has two endings, the first one counts)
                     ends.setdefault(self._open[it.number], ending or Loss.UNKNOWN)
             for whole, ending in ends.items():
                 own = whole.recorded
@@ -373,15 +373,15 @@ class Continuing(CallWriter):
                 self._end(whole, ending)
 
     def _still_open(self, call: Call) -> WholeCall:
-        """The call, which is refused if it isn't open."""
+        """Returns the call; raises CallError if it isn't open."""
         if self.has_ended:
             raise Ended
         if call.number not in self._open:
-            raise CallError(f"call {call.number} has its ending already")
+            raise CallError(f"call {call.number} has ended already")
         return self._open[call.number]
 
     def _end(self, call: WholeCall, ending: Union[Reply, Loss]) -> None:
-        """Takes what became of a call, whose ending is written, if its part has one."""
+        """Notes the ending of a call, which was written if its part is still there."""
         del self._open[call.number]
         call.document.past.ended(call, interpret_ending(call.operation, ending))
         is_lost = isinstance(ending, Loss)
@@ -392,7 +392,7 @@ class Continuing(CallWriter):
     # The end of parts
 
     def _finish_if_done(self, part: GrowingPart) -> None:
-        """Finishes a part to which nothing will be written again."""
+        """Finishes a part if nothing will be written to it any more."""
         if part.is_done and part in self._growing:
             self._finish(part)
 
@@ -402,8 +402,8 @@ class Continuing(CallWriter):
         part.finish()
 
     def end(self) -> None:
-        """Finishes each part; later calls and endings raise Ended. Without a call no file is left, and so no
-        directory."""
+        """Finishes all parts; later calls and endings raise Ended. Without a call, no file and no directory
+        are left."""
         with self._lock:
             if self.has_ended:
                 return
@@ -422,25 +422,25 @@ class Continuing(CallWriter):
                 raise fault
 
     def damage(self) -> Optional[str]:
-        """What somebody else did to a part that grows, or None if each is as it was written."""
+        """Returns what another process did to an unfinished part, or None."""
         with self._lock:
             return next(filter(None, (it.history.damage() for it in self._growing)), None)
 
 
 def part_of(text: str) -> int:
-    """The argument of --part: how many calls of clients a part has."""
+    """Parses --part: the number of calls of a part."""
     if not text.isdecimal() or not 1 <= int(text) <= MOST_EVENTS // 2:
         raise argparse.ArgumentTypeError(f"a part has 1 to {MOST_EVENTS // 2} calls")
     return int(text)
 
 
 def add_part_options(add: Callable[..., object]) -> None:
-    """Adds the options of a recorder that goes on without end."""
+    """Adds the options of a recording in parts."""
     add(
         "--parts",
         dest="part",
         action="store_const",
         const=PART,
-        help=f"OUT is a directory of parts of {PART} calls: the recording has no end",
+        help=f"record without a limit: OUT is a directory of parts of {PART} calls each",
     )
-    add("--part", type=part_of, metavar="N", help="the same, with parts of N calls")
+    add("--part", type=part_of, metavar="N", help="the same, with N calls in each part")

@@ -1,5 +1,4 @@
-"""The lines of a history text: limits, calls and replies as their members, and what casbench reads of a JSON
-text."""
+"""The format of history texts: its limits, the members of the lines, and which JSON casbench reads."""
 
 import functools
 import json
@@ -8,27 +7,26 @@ from enum import Enum
 from typing import Any, Dict, List, NamedTuple, Optional, Tuple, Union
 
 MOST_EVENTS = 1_048_576
-"""The most events of a history. A call takes room for two, itself and its ending."""
+"""The maximum number of events of a history. A call takes two, itself and its ending."""
 
 LONGEST_LINE = 65_536
-"""The most bytes of a line, its line feed not counted."""
+"""The maximum length of a line in bytes, without its line feed."""
 
 LONGEST_BODY = LONGEST_LINE - 100
-"""The most bytes of the text of a body in it: the number, the time and what stands around them take the
-others."""
+"""The maximum length of the body in a line: the rest is for the number, the time and the other members."""
 
 LONGEST_ID = 512
-"""The most bytes of a document's id."""
+"""The maximum length of the id of a document in bytes."""
 
 LONGEST_CLIENT = 256
-"""The most bytes of what names a client, or a node."""
+"""The maximum length of the name of a client or a node in bytes."""
 
 LONGEST_NOTE = 1000
-"""The most letters of a note."""
+"""The maximum length of a note."""
 
 DEEPEST_BODY = 100
-"""How deep arrays and objects of a body may be nested. casbench reads 127 levels, and the line around it is
-one."""
+"""The maximum nesting of arrays and objects in a body. casbench reads 127 levels, one of which is the
+line."""
 
 OPERATIONS = ("get", "index", "delete", "create")
 
@@ -39,55 +37,54 @@ TAKES_A_CONDITION = ("index", "delete")
 CONFLICT = "version_conflict_engine_exception"
 
 LOST = '{"e":"lost","n":'
-"""What stands before the number in the line of a lost call."""
+"""The start of the line of a lost call, up to its number."""
 
 compact = json.JSONEncoder(separators=(",", ":")).encode
-"""The JSON text of a value, without spaces."""
+"""Returns the JSON text of a value, without spaces."""
 
 text_of_id = functools.lru_cache(maxsize=8192)(compact)
-"""The same of an id, remembered."""
+"""The same for an id, cached."""
 
 HALF_OF_A_PAIR = re.compile(r"\\u[dD][89a-fA-F]|[\ud800-\udfff]")
-"""What may be half of a surrogate pair, in the text of a JSON value."""
+"""Matches what may be half of a surrogate pair in JSON."""
 
 JsonObject = Dict[str, Any]
 """The members of a JSON object."""
 
 ReplyBody = Union[bytes, str, Dict[str, Any], List[Any], None]
-"""A reply's body: its text as it was received, in bytes or as a string, or the value that it was read as, or
-nothing."""
+"""The body of a reply: its text as received, in bytes or as a string, or its parsed value, or nothing."""
 
 Reply = Tuple[int, Optional[str]]
-"""The status of a reply, and the JSON text of its body, if it has one that is read."""
+"""The status of a reply, and the JSON text of its body, if there is one that casbench reads."""
 
 
 class Loss(Enum):
     """What is known of a call that ends without a reply."""
 
     UNKNOWN = "it may have been performed, or may be at any later time"
-    OVER = "it may have been performed, and won't be any more: it was answered"
+    OVER = "it may have been performed, and won't be later, since it was answered"
     VOID = "it was not performed"
 
 
 Rest = Union[str, Loss]
-"""What stands behind the number and the time of an ending: the rest of a reply's line, or what a lost call's
-line says."""
+"""The rest of the line of an ending, after the number and the time: that of a reply, or what is known of a
+lost call."""
 
 
 class CallError(ValueError):
-    """A call, a reply or an ending that the history can't have. No line was written for it."""
+    """An invalid call, reply or ending. No line was written for it."""
 
 
 class Pair(NamedTuple):
-    """What names a version of a document: its primary term and its sequence number."""
+    """The primary term and the sequence number that identify a version of a document."""
 
     term: int
     seq: int
 
 
 class Operation(NamedTuple):
-    """What a call asks: the operation, the document, the value of an index or a create, the condition of an
-    index or a delete; and who asks, and through which node, if that is known."""
+    """What a call requests: the operation, the document, the value of an index or a create, the condition of
+    an index or a delete; and the client and the node, if they are known."""
 
     op: str
     id: str
@@ -99,12 +96,12 @@ class Operation(NamedTuple):
 
 
 def is_whole(value: object, least: int, most: int) -> bool:
-    """Whether the value is a whole number within these bounds."""
+    """Returns whether the value is an integer within these bounds."""
     return type(value) is int and least <= value <= most
 
 
 def checked_pair(pair: Pair) -> Pair:
-    """The pair, which is refused where it can't be one."""
+    """Returns the pair; raises CallError if it is invalid."""
     checked = pair_if(*pair)
     if checked is None:
         raise CallError(
@@ -114,20 +111,20 @@ def checked_pair(pair: Pair) -> Pair:
 
 
 def pair_if(term: object, seq: object) -> Optional[Pair]:
-    """The pair of a term and a sequence number, or None where they can be none."""
-    # (what is shifted is 0 if both are below 2^63, and neither is negative)
+    """Returns the pair of a term and a sequence number, or None if they are invalid."""
+    # (the shifted value is 0 if both are below 2^63 and not negative)
     if type(term) is int and type(seq) is int and term > 0 and not (term | seq) >> 63:
         return Pair(term, seq)
     return None
 
 
 def text_of_write(id: str, result: str, pair: Pair) -> str:
-    """The text of a reply's body that tells a write."""
+    """Returns the body of a reply to a performed write."""
     return f'{{"_id":{text_of_id(id)},"result":"{result}","_seq_no":{pair.seq},"_primary_term":{pair.term}}}'
 
 
 def text_of_find(id: str, pair: Pair, k: int) -> str:
-    """The text of a reply's body that tells what a get found."""
+    """Returns the body of a reply to a get that found a version."""
     return (
         f'{{"_id":{text_of_id(id)},"_seq_no":{pair.seq},"_primary_term":{pair.term},'
         f'"found":true,"_source":{{"k":{k}}}}}'
@@ -135,19 +132,18 @@ def text_of_find(id: str, pair: Pair, k: int) -> str:
 
 
 def text_of_missing(id: str) -> str:
-    """The text of the body with which a get is answered that found nothing."""
+    """Returns the body of a reply to a get that found nothing."""
     return f'{{"_id":{text_of_id(id)},"found":false}}'
 
 
 def pair_of(body: Any) -> Optional[Pair]:
-    """The pair that a body tells, if any."""
+    """Returns the pair in a body, if there is one."""
     return pair_if(body.get("_primary_term"), body.get("_seq_no")) if isinstance(body, dict) else None
 
 
 @functools.lru_cache(maxsize=8192)
 def member_of_id(id: str) -> str:
-    """The member of a call's line that names its document, remembered. Raises CallError where it can't be an
-    id."""
+    """Returns the member with the id of a call's document, cached. Raises CallError if the id is invalid."""
     if not isinstance(id, str) or not 1 <= length_of(id) <= LONGEST_ID:
         raise CallError(f"an id is a text of 1 to {LONGEST_ID} bytes, and not {id!r}")
     return f'"id":{compact(id)}'
@@ -155,21 +151,20 @@ def member_of_id(id: str) -> str:
 
 @functools.lru_cache(maxsize=8192)
 def members_of_who(client: str, node: str) -> str:
-    """The members that name the client and the node, as far as they are known, remembered. Raises CallError
-    at what can't be a name."""
+    """Returns the members with the client and the node, as far as they are known, cached. Raises CallError if
+    a name is invalid."""
     return "".join([member_of(key, name) for key, name in (("client", client), ("node", node)) if name])
 
 
 def member_of(key: str, name: str) -> str:
-    """The member that names a client or a node."""
+    """Returns the member with the name of a client or a node."""
     if not isinstance(name, str) or not 1 <= length_of(name) <= LONGEST_CLIENT:
         raise CallError(f"a {key} is a text of at most {LONGEST_CLIENT} bytes, and not {name!r}")
     return f',"{key}":{compact(name)}'
 
 
 def members_of_call(operation: Operation) -> str:
-    """The members of a call's line behind its number, up to the line's end. Raises CallError where it can't
-    be a call."""
+    """Returns the rest of the line of a call, after its number. Raises CallError if the call is invalid."""
     op, id, value, condition, shard, client, node = operation
     if op not in OPERATIONS:
         raise CallError(f"an operation is one of {', '.join(OPERATIONS)}, and not {op!r}")
@@ -177,7 +172,7 @@ def members_of_call(operation: Operation) -> str:
         members = f'{member_of_id(id)},"op":"{op}"'
     except TypeError as fault:
         raise CallError(f"an id is a text, and not {id!r}") from fault
-    # (what is shifted is 0 if the number has so many bits, and isn't negative)
+    # (the shifted value is 0 if the number has at most so many bits and isn't negative)
     if type(shard) is not int or shard >> 10:
         raise CallError(f"a shard is a whole number up to 1023, and not {shard!r}")
     if op in WRITES_A_VALUE:
@@ -194,7 +189,7 @@ def members_of_call(operation: Operation) -> str:
 
 
 def line_of_ending(number: int, now: int, rest: Rest) -> str:
-    """The line of an ending of the call with this number, at this time."""
+    """Returns the line of an ending."""
     if isinstance(rest, str):
         return f'{{"e":"reply","n":{number},"t":{now}{rest}}}\n'
     void = ',"void":true' if rest is Loss.VOID else ""
@@ -202,10 +197,10 @@ def line_of_ending(number: int, now: int, rest: Rest) -> str:
 
 
 def rest_of(ending: Union[Reply, Loss]) -> Rest:
-    """What stands behind the number of an ending: of a reply its status, and its body as it came.
+    """Returns the rest of the line of an ending: the status and the body of a reply as received, or what is
+    known of a loss.
 
-    Where the body is too long for a line, its members that count stand for it; where they are too long,
-    nothing.
+    If the body is too long for a line, only its relevant members are kept; if these are too long, none.
     """
     if isinstance(ending, Loss):
         return ending
@@ -213,7 +208,7 @@ def rest_of(ending: Union[Reply, Loss]) -> Rest:
     start = f',"status":{status}'
     if text is None:
         return start
-    # (a letter takes four bytes at most)
+    # (a character has at most four bytes)
     if len(text) * 4 > LONGEST_BODY and len(text.encode()) > LONGEST_BODY:
         text = shortened(text)
         if len(text.encode()) > LONGEST_BODY:
@@ -222,13 +217,13 @@ def rest_of(ending: Union[Reply, Loss]) -> Rest:
 
 
 def shortened(text: str) -> str:
-    """The text of a body with its members that count alone."""
+    """Returns the text of a body with only its relevant members."""
     value = value_of(text)
     return compact(counting_members(value)) if isinstance(value, dict) else "null"
 
 
 def counting_members(body: Dict[str, Any]) -> Dict[str, Any]:
-    """The members of a body that count."""
+    """Returns the relevant members of a body."""
     kept = {key: body[key] for key in ("_id", "_seq_no", "_primary_term", "result", "found") if key in body}
     for name, key in (("_source", "k"), ("error", "type")):
         member = body.get(name)
@@ -238,7 +233,7 @@ def counting_members(body: Dict[str, Any]) -> Dict[str, Any]:
 
 
 def text_of(body: ReplyBody) -> Optional[str]:
-    """The JSON text of a body on one line, or None where it is none that casbench reads."""
+    """Returns the JSON text of a body on one line, or None if it isn't JSON that casbench reads."""
     try:
         if isinstance(body, bytes):
             text = body.decode("utf-8")
@@ -247,21 +242,20 @@ def text_of(body: ReplyBody) -> Optional[str]:
         else:
             text = compact(body)
         value_of(text)
-        # (between the tokens of a JSON text a line feed is a space, and within a string there is none)
+        # (a line feed in JSON is white space: strings have none)
         return text.replace("\n", " ").replace("\r", " ") if is_readable(text) else None
     except (TypeError, ValueError, RecursionError):
         return None
 
 
 def whole_number(digits: str) -> Union[int, float]:
-    """A number that is spelled by digits alone. With a minus sign 0 isn't whole for casbench, and stays
-    so."""
+    """Parses an integer. For casbench -0 isn't an integer, so it becomes a float."""
     other_number(digits)
     return -0.0 if digits == "-0" else int(digits)
 
 
 def other_number(digits: str) -> float:
-    """A number that a float holds."""
+    """Parses a number that has to fit into a float."""
     number = float(digits)
     if not abs(number) < 1e308:
         raise ValueError(f"{digits} is past what a float holds")
@@ -271,12 +265,12 @@ def other_number(digits: str) -> float:
 value_of = json.JSONDecoder(
     parse_int=whole_number, parse_float=other_number, parse_constant=other_number
 ).decode
-"""The value of a JSON text. Raises ValueError where it is none, or has a number that casbench doesn't
-read."""
+"""Parses a JSON text. Raises ValueError if it is invalid, or has a number that casbench doesn't read."""
 
 
 def length_of(text: str) -> int:
-    """How many bytes a text has; 0 where it is none, since it has half of a surrogate pair."""
+    """Returns the length of a text in UTF-8; 0 if it can't be encoded, because of half of a surrogate
+    pair."""
     try:
         return len(text.encode())
     except UnicodeEncodeError:
@@ -284,16 +278,16 @@ def length_of(text: str) -> int:
 
 
 def is_readable(text: str) -> bool:
-    """Whether casbench's reader takes the JSON text: it has no half of a surrogate pair and isn't nested too
-    deep."""
+    """Returns whether casbench reads the JSON text: it has no half of a surrogate pair and isn't nested too
+    deeply."""
     if not HALF_OF_A_PAIR.search(text) and text.count("{") + text.count("[") <= DEEPEST_BODY:
         return True
-    # (as lists of pairs, so that a key that comes twice keeps both its values)
+    # (objects as lists of pairs, so that a duplicate key keeps both values)
     return is_readable_value(json.loads(text, object_pairs_hook=list), DEEPEST_BODY)
 
 
 def is_readable_value(value: Any, levels: int) -> bool:
-    """The same of a value that may have so many levels."""
+    """The same for a value, and this number of levels."""
     if isinstance(value, list):
         return levels > 0 and all(is_readable_value(part, levels - 1) for part in value)
     if isinstance(value, tuple):

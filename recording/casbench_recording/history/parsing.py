@@ -1,5 +1,5 @@
-"""A history text as its calls: what each one wrote and showed, and the text of some of them, with their part
-of a witness."""
+"""A history text, parsed into calls: what each of them wrote and showed, and the text of a subset, with its
+part of a witness."""
 
 import json
 from bisect import bisect_left
@@ -13,7 +13,7 @@ VersionKey = Tuple[str, int, int]
 
 
 class ParsedCall:
-    """A call: its document, where its lines stand, and the version that its reply shows or asks for."""
+    """A call: its document, its lines, and the versions that it made and depends on."""
 
     __slots__ = (
         "number",
@@ -35,7 +35,7 @@ class ParsedCall:
         self.op: str = event["op"]
         self.has_condition = "if_seq_no" in event
         self.is_refused = False
-        # whether its lost line states that nothing was performed
+        # whether its ending says that nothing was performed
         self.is_void = False
         self.result = ""
         self.made: Optional[VersionKey] = None
@@ -46,7 +46,7 @@ class ParsedCall:
             self.stands_on = (self.id, event["if_primary_term"], event["if_seq_no"])
 
     def end(self, event: Dict[str, Any], line: int) -> None:
-        """Takes an ending. What a conflict asked for may be gone, so it stands on nothing."""
+        """Adds the ending. A call with a conflict depends on no version, since that may be gone."""
         self.ending = line
         if event["e"] != "reply":
             self.is_void = event.get("void") is True
@@ -63,23 +63,23 @@ class ParsedCall:
 
 
 class Record(NamedTuple):
-    """What a place of a witness is of: the number of a call, or its write that the store may have performed
-    again."""
+    """What a place of a witness refers to: the number of a call, or its write that the store may have
+    performed again."""
 
     number: int
     is_again: bool
 
 
 class WitnessPlace(NamedTuple):
-    """A place of a witness: where it stands among those of its document, and the members of its line but for
-    the record."""
+    """A place of a witness: its rank among those of its document, and the members of its line without the
+    record."""
 
     rank: int
     pair: Dict[str, int]
 
 
 class ParsedHistory:
-    """The calls of a history that is judged in a reading, and the text of some of them."""
+    """The calls of a history that is judged in a reading, and the text of subsets of them."""
 
     def __init__(self, lines: Iterable[bytes], reading: Reading = STRICT) -> None:
         self.reading = reading
@@ -88,7 +88,7 @@ class ParsedHistory:
         self.places: Dict[Record, WitnessPlace] = {}
 
     def read(self) -> None:
-        """Reads the calls. The text is one that casbench takes."""
+        """Parses the calls. casbench has accepted the text."""
         decode = json.JSONDecoder().decode
         for line, text in enumerate(self.lines):
             event = decode(text.decode())
@@ -98,7 +98,7 @@ class ParsedHistory:
                 self.calls[event["n"]].end(event, line)
 
     def read_witness(self, text: bytes) -> None:
-        """Notes the places that a witness gives to the calls. The text is one that casbench takes."""
+        """Parses the places of the calls in a witness. casbench has accepted the text."""
         records: Dict[str, List[Record]] = {}
         for it in self.calls.values():
             records.setdefault(it.id, []).extend(self.records_of(it))
@@ -112,31 +112,31 @@ class ParsedHistory:
                 self.places[its[members["rec"]]] = WitnessPlace(rank, pair)
 
     def does_nothing(self, call: ParsedCall) -> bool:
-        """Whether the call changes nothing: it is a get, or states by its loss that it was not performed."""
+        """Returns whether the call changes nothing: it is a get, or a void call that is trusted."""
         return call.op == "get" or call.is_void and self.reading.failed is Failed.TRUSTED
 
     def is_repeated(self, call: ParsedCall) -> bool:
-        """Whether the store may have performed the call's write again."""
+        """Returns whether the store may have performed the call's write again."""
         return not self.does_nothing(call) and self.reading.is_performed_twice(call.op, call.has_condition)
 
     def is_decided(self, call: ParsedCall) -> bool:
-        """Whether it is known which writes the store performed of the call."""
+        """Returns whether it is known which writes the store performed for the call."""
         is_known = call.made is not None or call.is_refused and self.reading.conflicts is Conflicts.PLAIN
         return self.does_nothing(call) or is_known and not self.is_repeated(call)
 
     def records_of(self, call: ParsedCall) -> List[Record]:
-        """The records of a call, as a witness counts them."""
+        """Returns the records of a call, as a witness counts them."""
         return [Record(call.number, it) for it in ((False, True) if self.is_repeated(call) else (False,))]
 
     def text_of(self, kept: Collection[int]) -> bytes:
-        """The lines of these calls."""
+        """Returns the lines of these calls."""
         calls = [self.calls[it] for it in kept]
         lines = sorted([it.line for it in calls] + [it.ending for it in calls if it.ending is not None])
         return b"".join(map(self.lines.__getitem__, lines))
 
     def witness_of(self, kept: Collection[int]) -> bytes:
-        """The part of the witness that is of these calls: their places in the same order, their records
-        numbered anew."""
+        """Returns the part of the witness for these calls: their places in the same order, with new numbers
+        of records."""
         entries: Dict[str, List[Tuple[WitnessPlace, int]]] = {}
         records: Dict[str, int] = {}
         for call in self.in_order(kept):
@@ -154,12 +154,12 @@ class ParsedHistory:
         return b"".join(json.dumps(it, separators=(",", ":")).encode() + b"\n" for it in rows)
 
     def in_order(self, numbers: Iterable[int]) -> List[ParsedCall]:
-        """The calls with these numbers, in the order of their lines."""
+        """Returns the calls with these numbers, in the order of their lines."""
         return sorted((self.calls[it] for it in numbers), key=lambda it: it.line)
 
 
 class Beginnings:
-    """Which call made each document that is there at a line, as far as the replies before it say."""
+    """Which call created each document that exists at a line, according to the preceding replies."""
 
     def __init__(self, calls: Iterable[ParsedCall]) -> None:
         self.lines: Dict[str, List[int]] = {}
@@ -172,6 +172,6 @@ class Beginnings:
             self.lines.setdefault(it.id, []).append(it.ending or 0)
 
     def maker_at(self, id: str, line: int) -> Optional[int]:
-        """The number of the call that made the document, if it is there at this line."""
+        """Returns the number of the call that created the document, if it exists at this line."""
         at = bisect_left(self.lines.get(id, []), line)
         return self.makers[id][at - 1] if at else None

@@ -1,7 +1,7 @@
-"""Readings of a history: what a store promises less than that each reply shows the last change of its
-document.
+"""Readings of a history: what a store promises, which may be less than that each reply shows the last change
+of its document.
 
-The names and the values are those of casbench's options. Without any of them a reading is strict.
+The names and the values are those of casbench's options. The default is the strict reading.
 """
 
 import argparse
@@ -12,15 +12,15 @@ from .format import MOST_EVENTS
 
 
 class Gets(Enum):
-    """What a get shows: the last change, or what any copy had."""
+    """What a get returns: the last version, or that of any copy."""
 
     LAST = "last"
     ANY = "any"
 
 
 class Conflicts(Enum):
-    """How a conflict is read: as a write that was not performed, as one that may have been performed all the
-    same, or as nothing at all."""
+    """What a conflict means: the write was not performed, may have been performed all the same, or
+    nothing."""
 
     PLAIN = "plain"
     MAYBE = "maybe"
@@ -28,15 +28,14 @@ class Conflicts(Enum):
 
 
 class Writes(Enum):
-    """How often a write is performed: once, or, without a condition, maybe twice."""
+    """How often a write is performed: once, or, if it has no condition, perhaps twice."""
 
     ONCE = "once"
     REPEATED = "repeated"
 
 
 class Failed(Enum):
-    """How a lost call that is marked as void is read: as one that may have been performed, or as one that was
-    not."""
+    """What a lost call that is marked as void means: it may have been performed, or it was not."""
 
     LOST = "lost"
     TRUSTED = "trusted"
@@ -51,7 +50,7 @@ class Reading(NamedTuple):
     failed: Failed = Failed.LOST
 
     def options(self) -> List[str]:
-        """The options that ask casbench for it: of each choice that isn't the strict one."""
+        """Returns the options of casbench for this reading: those of the choices that aren't strict."""
         named = {
             name: choice for name, choice in self._asdict().items() if choice is not getattr(STRICT, name)
         }
@@ -67,8 +66,8 @@ class Reading(NamedTuple):
         return MOST_EVENTS // 3 * 2 if self.writes is Writes.REPEATED else MOST_EVENTS
 
     def is_performed_twice(self, op: str, has_condition: bool) -> bool:
-        """Whether the store may perform this operation a second time. A write under a condition would be
-        refused then."""
+        """Returns whether the store may perform this operation a second time. With a condition it would be
+        refused."""
         return self.writes is Writes.REPEATED and op != "get" and not has_condition
 
 
@@ -77,34 +76,33 @@ OPENSEARCH = Reading(Gets.ANY, Conflicts.UNKNOWN, Writes.REPEATED, Failed.TRUSTE
 
 
 class Profile(Enum):
-    """What a store promises as a whole: linearizable reads and writes, or what OpenSearch's documentation
-    says."""
+    """What a store promises as a whole: linearizable reads and writes, or what OpenSearch documents."""
 
     STRICT = "strict"
     OPENSEARCH = "opensearch"
 
     @property
     def reading(self) -> Reading:
-        """The reading that it stands for."""
+        """The reading of the profile."""
         return OPENSEARCH if self is Profile.OPENSEARCH else STRICT
 
 
 # The options
 
 CHOICES: Dict[str, Type[Enum]] = {"gets": Gets, "conflicts": Conflicts, "writes": Writes, "failed": Failed}
-"""The kind of each choice, by its name."""
+"""The type of each choice, by its name."""
 
 HELP = {
-    "profile": "what the store promises (strict)",
-    "gets": "what a get shows (the profile's)",
-    "conflicts": "how a conflict is read (the profile's)",
-    "writes": "how often a write is performed (the profile's)",
-    "failed": "how a lost call that is marked as void is read (the profile's)",
+    "profile": "the guarantees of the store (strict)",
+    "gets": "whether a get returns the last version, or any copy's (default: the profile's)",
+    "conflicts": "what a conflict means: not performed, maybe performed, or nothing (default: the profile's)",
+    "writes": "whether the store may perform a write twice (default: the profile's)",
+    "failed": "whether calls marked as void may have been performed (default: the profile's)",
 }
 
 
 class NamedOnce(argparse.Action):
-    """Takes the value of an option, which may come once."""
+    """Stores the value of an option that may be given once."""
 
     def __call__(
         self,
@@ -114,13 +112,12 @@ class NamedOnce(argparse.Action):
         option_string: Optional[str] = None,
     ) -> None:
         if getattr(namespace, self.dest) is not None:
-            raise argparse.ArgumentError(self, "it comes twice")
+            raise argparse.ArgumentError(self, "it may be given only once")
         setattr(namespace, self.dest, values)
 
 
 def add_reading_options(add: Callable[..., object], **more: str) -> None:
-    """Adds the options of a reading, which are those of a check; and more values of them, each by the name of
-    its option."""
+    """Adds the options of a reading; `more` has additional values, by the name of the option."""
     kinds: Dict[str, Type[Enum]] = {"profile": Profile, **CHOICES}
     for name, kind in kinds.items():
         values = [it.value for it in kind] + ([more[name]] if name in more else [])
@@ -128,13 +125,12 @@ def add_reading_options(add: Callable[..., object], **more: str) -> None:
 
 
 def is_named(setting: argparse.Namespace) -> bool:
-    """Whether an option names a reading, or a choice of one."""
+    """Returns whether an option names a reading, or a choice of one."""
     return any(getattr(setting, name) is not None for name in ("profile", *CHOICES))
 
 
 def reading_of(setting: argparse.Namespace) -> Reading:
-    """The reading that the options ask for: that of the profile, but for the choices that are named beside
-    it."""
+    """Returns the reading of the options: that of the profile, with the choices that are named beside it."""
     profile = profile_of(setting).reading
 
     def chosen(name: str) -> Any:
@@ -145,11 +141,10 @@ def reading_of(setting: argparse.Namespace) -> Reading:
 
 
 def profile_of(setting: argparse.Namespace) -> Profile:
-    """The profile that the options name; the strict one if they name none."""
+    """Returns the profile of the options; the strict one by default."""
     return Profile.STRICT if setting.profile is None else Profile(setting.profile)
 
 
 def is_ruling_out(setting: argparse.Namespace) -> bool:
-    """Whether documents are checked for being ruled out: if that is asked for, and with the profile of
-    OpenSearch."""
+    """Returns whether to check with --rule-out: if it is given, or implied by the OpenSearch profile."""
     return setting.rule_out or profile_of(setting) is Profile.OPENSEARCH

@@ -1,10 +1,10 @@
-"""Replies by which OpenSearch states that a write was not performed, at no attempt.
+"""Replies that prove that OpenSearch didn't perform a write, at any attempt.
 
-The node that coordinates a request may send it again after a connection broke, so what the last attempt met
-needn't be what an earlier one met. These replies come before any attempt, or to each attempt alike: the
-request is refused by the node that was asked, or its content is. Who else answers on the way proves nothing,
-so the body has to be one as OpenSearch writes it: an object of `error` and of a `status` that is the reply's,
-in an item of a bulk request with the document's name beside them.
+The node that coordinates a request may send it again after a connection failed, so the result of the last
+attempt may differ from an earlier one. The replies here come before any attempt, or would come at each: the
+coordinating node refuses the request, or its content is invalid. Other servers on the way prove nothing. So
+the body has to be what OpenSearch writes: an object with `error` and with a `status` equal to the reply's,
+and in an item of a bulk request with the names of the document.
 """
 
 from typing import Optional
@@ -32,38 +32,38 @@ CONTENT_REFUSED = {
         "invalid_index_name_exception",
     ),
 }
-"""The types of the errors with status 400 that are of a request's content: its mapping, its parsing, its
+"""The types of errors with status 400 that concern the content of a request: its mapping, parsing or
 validation."""
 
 ACCESS_REFUSED = "security_exception"
-"""The type of the errors with status 401 and 403 that are of who asks. A block of the index has 403 too, and
-may be set between attempts."""
+"""The type of errors with status 401 and 403 that concern the user. A block of the index has 403 too, and may
+be set between attempts."""
 
 REJECTED, BY_COORDINATOR = "rejected_execution_exception", "rejected execution of coordinating operation"
-"""The type of the errors with status 429, and how the reason begins if the coordinating node raised it, and
-not the primary."""
+"""The type of errors with status 429, and the start of the reason if the coordinating node rejects, rather
+than the primary."""
 
 ALWAYS_REFUSED = (405, 406, 413, 415)
-"""The statuses of a method, a kind of content or a length that no node takes. Their `error` may be a text
-alone."""
+"""The statuses for a method, a content type or a length that no node accepts. Their `error` may be a
+string."""
 
 MAY_BE_UNPERFORMED = {400, 401, 403, 429, *ALWAYS_REFUSED}
-"""The statuses of replies that may state that a write was not performed."""
+"""The statuses of replies that may prove that a write was not performed."""
 
 NAMES_OF_AN_ITEM = {"_index", "_type", "_id"}
-"""What stands in an item of the answer to a bulk request beside its status and its error."""
+"""The members of an item in the answer to a bulk request, besides its status and its error."""
 
 MISSING = "document_missing_exception"
-"""The type of the error of an update whose document isn't there."""
+"""The type of the error of an update if its document doesn't exist."""
 
 
 def is_unperformed(status: int, body: Optional[JsonObject], is_handed_on: bool = False) -> bool:
-    """Whether a reply states that the write was not performed.
+    """Returns whether a reply proves that the write was not performed.
 
-    A request for one update is handed on to the primary's node, which coordinates the write: that may reject
-    it after an earlier attempt. A bulk request of several documents is handed on shard by shard, and may be
-    rejected as a whole after a part of it was (shard indexing pressure). Of either, a rejection by the
-    coordinating node proves nothing.
+    A request with a single update is forwarded to the primary's node, which coordinates the write and may
+    reject it after an earlier attempt. A bulk request with several documents is forwarded shard by shard, and
+    may be rejected as a whole after a part of it was performed (shard indexing pressure). For these, a
+    rejection by the coordinating node proves nothing.
     """
     if status not in MAY_BE_UNPERFORMED or not isinstance(body, dict) or body.get("status") != status:
         return False
@@ -81,8 +81,8 @@ def is_unperformed(status: int, body: Optional[JsonObject], is_handed_on: bool =
 
 
 def changed_nothing(status: int, body: JsonObject) -> bool:
-    """Whether a reply says of an update that its last attempt changed nothing: the document was as it asked,
-    or wasn't there."""
+    """Returns whether a reply says that the last attempt of an update changed nothing: the document was as
+    requested, or didn't exist."""
     return (
         (status, body.get("result")) == (200, "noop")
         or status == 404
@@ -91,6 +91,6 @@ def changed_nothing(status: int, body: JsonObject) -> bool:
 
 
 def type_of(error: object) -> Optional[str]:
-    """The type that an error names."""
+    """Returns the type of an error."""
     kind = error.get("type") if isinstance(error, dict) else None
     return kind if isinstance(kind, str) else None

@@ -1,8 +1,8 @@
 """Witnesses: made from the log of a store, and checked without casbench.
 
-`witness_by_log` makes the witness of a history from the changes in a store's own log, for a strict check.
-`checked` runs `witness_checker`, which is written apart from the prover, and adds a sentence about the calls
-if the witness isn't valid.
+`witness_by_log` makes the witness of a history from the changes in the store's own log, for a strict check.
+`checked` runs `witness_checker`, which is independent of the prover, and adds a sentence about the calls if
+the witness isn't valid.
 """
 
 from typing import Iterator, Mapping, NamedTuple, Optional, Tuple
@@ -17,8 +17,8 @@ from .readings import STRICT, Reading
 class StoreLog(NamedTuple):
     """What a store's own log says of the calls of a history, by their numbers.
 
-    `changes` has the pair of each change, with the call that made it. `seen` has for each other answered call
-    the pair of the last change, of whichever document, that its answer had seen.
+    `changes` has the pair of each change, by the call that made it. `seen` has for each other answered call
+    the pair of the last change, of any document, that its answer had seen.
     """
 
     changes: Mapping[int, Pair]
@@ -26,8 +26,8 @@ class StoreLog(NamedTuple):
 
 
 class PlaceInLog(NamedTuple):
-    """A place of a document: the pair at which it stands, whether it stands behind the change with this pair,
-    the number of its record, and whether the pair is given."""
+    """A place of a document: its pair, whether it follows the change with this pair, the number of its
+    record, and whether the pair is written to the witness."""
 
     pair: Pair
     is_behind: bool
@@ -36,10 +36,9 @@ class PlaceInLog(NamedTuple):
 
 
 def witness_by_log(history: bytes, log: StoreLog) -> Iterator[str]:
-    """The lines of the witness that the log is of the history: each change stands in the order of the log,
-    each other answered call behind the last change that it had seen. A call of which neither the log nor
-    `seen` says anything stands in no place.
-    """
+    """Returns the lines of a witness according to the log: each change in the order of the log, each other
+    answered call after the last change that it had seen. Calls that are neither in the log nor in `seen` have
+    no place."""
     for id, calls in witness_checker.Texts(history, b"").records.items():
         yield compact({"doc": id}) + "\n"
         for place in sorted(filter(None, (place_of(*it, log) for it in enumerate(calls)))):
@@ -47,7 +46,7 @@ def witness_by_log(history: bytes, log: StoreLog) -> Iterator[str]:
 
 
 def place_of(record: int, call: witness_checker.CheckedCall, log: StoreLog) -> Optional[PlaceInLog]:
-    """The place of a call. It gives the pair of a change that no reply shows."""
+    """Returns the place of a call. It gives the pair of a change if no reply shows it."""
     if call.number in log.changes:
         return PlaceInLog(log.changes[call.number], False, record, call.pair is None)
     if call.answered is not None and call.number in log.seen:
@@ -56,7 +55,7 @@ def place_of(record: int, call: witness_checker.CheckedCall, log: StoreLog) -> O
 
 
 def text_of_place(place: PlaceInLog) -> str:
-    """The line of a place."""
+    """Returns the line of a place."""
     given = {"seq": place.pair.seq, "term": place.pair.term} if place.is_given else {}
     return compact({"rec": place.record, **given}) + "\n"
 
@@ -65,12 +64,12 @@ def text_of_place(place: PlaceInLog) -> str:
 
 
 def spelled(pair: Tuple[int, int]) -> str:
-    """A pair as term/number."""
+    """Returns a pair as term/number."""
     return f"{pair[0]}/{pair[1]}"
 
 
 def named(call: witness_checker.CheckedCall) -> str:
-    """A call, with what it asked and what it was answered."""
+    """Describes a call: what it requested, and the reply."""
     asked = call.op if call.condition is None else f"{call.op} under {spelled(call.condition)}"
     shown = "" if call.pair is None else f" {spelled(call.pair)}"
     k = "" if call.found is None else f" with k={call.found}"
@@ -79,7 +78,7 @@ def named(call: witness_checker.CheckedCall) -> str:
 
 
 def version_named(last: Optional[Tuple[int, int]], k: Optional[int]) -> str:
-    """What a document is when its last change had this pair and left this number."""
+    """Describes a document by the pair of its last change and its number."""
     if last is None:
         return "was never written"
     return f"was deleted by {spelled(last)}" if k is None else f"has the version {spelled(last)} with k={k}"
@@ -105,28 +104,27 @@ SENTENCES = {
     "missed-write": "Nothing was found by {first}, though a reply came before it was made to {second}, and "
     "no delete can be behind that.",
 }
-"""What is wrong, by the cause. `first` and `second` are calls, `version` is what the document is before a
-place."""
+"""What is wrong, by the cause. `first` and `second` are calls, `version` is the document before a place."""
 
 
 def sentence_of(fault: witness_checker.Broken) -> str:
-    """What is wrong with a witness, in one sentence that names the calls."""
+    """Returns what is wrong with a witness, in one sentence that names the calls."""
     where, id, calls, *version = fault.args
     cause = dict(it.split("=", 1) for it in where.split())["cause"]
     first, second = ([named(it) for it in calls] + ["", ""])[:2]
-    told = SENTENCES["no-record" if cause == "stranger" and not calls else cause]
-    return told.format(
+    sentence = SENTENCES["no-record" if cause == "stranger" and not calls else cause]
+    return sentence.format(
         id=compact(id), first=first, second=second, version=version_named(*version[0]) if version else ""
     )
 
 
 def words_of(reading: Reading) -> witness_checker.ReadingValues:
-    """The reading by the values of the options, as the checker takes it."""
+    """Returns the reading as the checker takes it: the values of the options."""
     return witness_checker.ReadingValues(*(it.value for it in reading))
 
 
 def checked(history: bytes, witness: bytes, reading: Reading = STRICT) -> Tuple[int, str]:
-    """The exit status of a check of the two texts, and what it prints."""
+    """Checks the two texts; returns the exit status and the output."""
     try:
         counts = witness_checker.check(witness_checker.Texts(history, witness, words_of(reading)))
     except witness_checker.Refused as fault:

@@ -1,12 +1,12 @@
-"""History texts: the lines of calls and of their endings, written as the calls are made.
+"""Writes history texts: a line for each call, and one for its ending, as the calls are made.
 
     with History("carts.ndjson") as history:
         with history.call("index", "cart-17", 7, Pair(term=1, seq=4)) as call:
             response = send(...)
             call.reply(response.status, response.body)
 
-The line of a call is in the file before `call` returns, so before its request can leave; the line of its
-reply when `reply` returns. A call that is left without a reply is written as lost. One lock orders all lines.
+The line of a call is in the file before `call` returns, and so before its request can be sent; the line of
+its reply when `reply` returns. A call without a reply is written as lost. A lock orders all lines.
 """
 
 import contextlib
@@ -46,16 +46,15 @@ if TYPE_CHECKING:
 
 
 MOST_LOST_AT_ONCE = 65_536
-"""How many calls are written as lost together."""
+"""How many lost calls are written together."""
 
 
 Ending = Tuple["Call", Union[Reply, Loss, None]]
-"""A call that ends, with its reply, or what is known of it without one; None says as much as an unknown
-loss."""
+"""A call that ends, with its reply, or what is known without one; None is the same as an unknown loss."""
 
 
 class HistoryError(Exception):
-    """Why a history could not be begun or gone on with, in words for the operator."""
+    """Why a history can't be created or continued, for the operator."""
 
 
 class Ended(Exception):
@@ -63,12 +62,13 @@ class Ended(Exception):
 
 
 class NoOutcome(Exception):
-    """No whole answer came, or none that says what was done: the outcome of the call is unknown."""
+    """No complete answer was received, or none that says what was done: the outcome of the call is
+    unknown."""
 
 
 class Call:
-    """A call that was made. It is ended once: by a reply, or as lost, which the end of its block does where
-    nothing else did."""
+    """A call that was made. It ends once: by a reply, or as lost, which is the default at the end of its
+    block."""
 
     __slots__ = ("history", "number", "operation")
 
@@ -89,66 +89,65 @@ class Call:
         return self.history.is_open(self)
 
     def reply(self, status: int, body: ReplyBody = None) -> None:
-        """Writes what was received: the status, and the body as it came. What is no JSON is left out, and so
-        is unknown."""
+        """Writes the reply: the status, and the body as received. A body that isn't JSON is left out, so its
+        call is of unknown outcome."""
         if not is_whole(status, 0, 65_535):
             raise CallError(f"a status is a whole number up to 65535, and not {status!r}")
         self.history.end_one(self, (status, text_of(body)))
 
     def lost(self) -> None:
-        """Writes that the outcome will never be known."""
+        """Writes that the outcome is unknown."""
         self.history.end_one(self, Loss.UNKNOWN)
 
     def void(self) -> None:
-        """Writes that nothing was performed, at no attempt. It is for a refusal that proves this, and for no
-        other fault."""
+        """Writes that nothing was performed, at any attempt. Use it only for a refusal that proves this."""
         self.history.end_one(self, Loss.VOID)
 
-    # Replies by what they say, for a store that answers in other words than OpenSearch.
+    # Replies by their meaning, for stores whose answers differ from OpenSearch's
 
     def indexed(self, pair: Pair, created: bool) -> None:
-        """The write was performed, with this pair, and made the document or replaced a version of it."""
-        self.says(
+        """The write was performed, with this pair, and created the document or replaced a version."""
+        self.check_operation(
             WRITES_A_VALUE if created else ("index",), "indexed" if created else "indexed and not created"
         )
         result = "created" if created else "updated"
-        self.tell(201 if created else 200, text_of_write(self.operation.id, result, checked_pair(pair)))
+        self.reply_with(201 if created else 200, text_of_write(self.operation.id, result, checked_pair(pair)))
 
     def deleted(self, pair: Pair, found: bool) -> None:
-        """The delete was performed, with this pair, and the document was there or not."""
-        self.says(("delete",), "deleted")
+        """The delete was performed, with this pair, and the document existed or not."""
+        self.check_operation(("delete",), "deleted")
         result = "deleted" if found else "not_found"
-        self.tell(200 if found else 404, text_of_write(self.operation.id, result, checked_pair(pair)))
+        self.reply_with(200 if found else 404, text_of_write(self.operation.id, result, checked_pair(pair)))
 
     def found(self, pair: Pair, k: int) -> None:
-        """The get found the version with this pair, which holds this value."""
-        self.says(("get",), "found")
+        """The get found the version with this pair, which has this value."""
+        self.check_operation(("get",), "found")
         if not is_whole(k, 0, 2**64 - 1):
             raise CallError(f"a value is a whole number below 2^64, and not {k!r}")
-        self.tell(200, text_of_find(self.operation.id, checked_pair(pair), k))
+        self.reply_with(200, text_of_find(self.operation.id, checked_pair(pair), k))
 
     def missing(self) -> None:
         """The get found no document."""
-        self.says(("get",), "missing")
-        self.tell(404, text_of_missing(self.operation.id))
+        self.check_operation(("get",), "missing")
+        self.reply_with(404, text_of_missing(self.operation.id))
 
     def conflict(self) -> None:
-        """The write was refused, since its condition wasn't met."""
-        self.says(("index", "delete", "create"), "a conflict")
-        self.tell(409, compact({"error": {"type": CONFLICT}}))
+        """The write was refused because its condition wasn't met."""
+        self.check_operation(("index", "delete", "create"), "a conflict")
+        self.reply_with(409, compact({"error": {"type": CONFLICT}}))
 
-    def tell(self, status: int, text: str) -> None:
-        """Writes a reply with the text of a body that was made here."""
+    def reply_with(self, status: int, text: str) -> None:
+        """Writes a reply with the text of a body."""
         self.history.end_one(self, (status, text))
 
-    def says(self, operations: Sequence[str], reply: str) -> None:
-        """Refuses a reply that is none to this operation."""
+    def check_operation(self, operations: Sequence[str], reply: str) -> None:
+        """Raises CallError if the reply doesn't fit the operation."""
         if self.operation.op not in operations:
             raise CallError(f"call {self.number} is a {self.operation.op}, and can't be answered as {reply}")
 
 
 class Histories:
-    """What a recording is written to: one history, or several. It ends with its block, or with `end`."""
+    """Where a recording is written: one history, or several. It ends with its block, or with `end`."""
 
     def __enter__(self: "AnyHistories") -> "AnyHistories":
         return self
@@ -162,11 +161,11 @@ class Histories:
         raise NotImplementedError
 
     def of_shard(self, shard: int) -> "CallWriter":
-        """The history of a shard's calls."""
+        """Returns the history for the calls of a shard."""
         raise NotImplementedError
 
     def judge_in(self, reading: "Reading") -> None:
-        """Has what is recorded be judged in a reading. It is called before the first call."""
+        """Sets the reading in which the recording will be judged. It is called before the first call."""
         raise NotImplementedError
 
     def call(
@@ -178,8 +177,7 @@ class Histories:
         shard: int = 0,
         client: str = "",
     ) -> Call:
-        """Writes the line of a call. Raises Ended where there is room for no more, CallError where it can't
-        be a call."""
+        """Writes the line of a call. Raises Ended if there is no room, CallError if the call is invalid."""
         return self.of_shard(shard).call_one(Operation(op, id, value, condition, shard, client))
 
     def end(self) -> None:
@@ -192,8 +190,8 @@ AnyHistories = TypeVar("AnyHistories", bound=Histories)
 
 
 class CallWriter(Histories):
-    """What numbers calls and writes their lines and those of their endings: a history, or one without end.
-    Any thread may use it."""
+    """Numbers calls and writes their lines and those of their endings: a history, or a recording without a
+    limit. It may be used by any thread."""
 
     def __init__(self, path: str) -> None:
         self.path = path
@@ -203,40 +201,39 @@ class CallWriter(Histories):
 
     @property
     def histories(self) -> "Tuple[CallWriter, ...]":
-        """This history alone."""
+        """This history."""
         return (self,)
 
     def of_shard(self, shard: int) -> "CallWriter":
-        """This history, as that of every shard's calls."""
+        """Returns this history, which is that of each shard."""
         return self
 
     @property
     def unanswered(self) -> int:
-        """How many calls have no reply: those that are open, and those that are lost."""
+        """How many calls have no reply: open and lost ones."""
         return self.calls - self.replies
 
     @property
     def room(self) -> int:
-        """How many calls it takes at once."""
+        """How many calls it takes at a time."""
         raise NotImplementedError
 
     def note(self, text: str) -> None:
-        """Puts a note on the next line, such as what was done to the store. The format reads past it."""
+        """Puts a note on the next line, such as what was done to the store. A check ignores it."""
         raise NotImplementedError
 
     def write(
         self, op: str, id: str, condition: Optional[Pair] = None, shard: int = 0, client: str = ""
     ) -> Call:
-        """Writes the line of an index or a create whose value is the number of its call, and so that of no
-        other call.
+        """Writes the line of an index or a create whose value is the number of its call, and so unique.
 
-        So a get, or the store's log, shows which call wrote a value, even if the write was never answered.
+        A get, or the log of the store, then shows which call wrote a value, even if the write was never
+        answered.
         """
         return self.write_all([writing(Operation(op, id, None, condition, shard, client))])[0]
 
     def write_all(self, operations: Sequence[Operation]) -> List[Call]:
-        """The same as `call_all`, but each index and each create is given the number of its call as its
-        value."""
+        """The same as `call_all`, but the value of each index and each create is the number of its call."""
         with self._lock:
             return self.call_all(numbered(operations, self.calls))
 
@@ -245,38 +242,36 @@ class CallWriter(Histories):
         raise NotImplementedError
 
     def call_all(self, operations: Sequence[Operation]) -> List[Call]:
-        """Writes the lines of several calls, such as the items of a bulk request: all of them or, where it
-        raises, none."""
+        """Writes the lines of several calls, such as the items of a bulk request; none if it raises."""
         raise NotImplementedError
 
     def is_open(self, call: Call) -> bool:
-        """Whether the call has no ending yet, and may be given one."""
+        """Returns whether the call has no ending yet."""
         raise NotImplementedError
 
     def end_one(self, call: Call, ending: Union[Reply, Loss]) -> None:
-        """Writes the line of a call's ending: its reply, or what is known without one."""
+        """Writes the ending of a call: its reply, or what is known without one."""
         raise NotImplementedError
 
     def end_all(self, endings: Sequence[Ending]) -> None:
-        """Writes the endings of several calls together. A call that has its ending already keeps it; at the
-        end there is nothing to write."""
+        """Writes the endings of several calls together, except for calls that have ended already. After the
+        end of the history it writes nothing."""
         raise NotImplementedError
 
     def lose(self, calls: Sequence[Call]) -> None:
-        """Writes those of the calls as lost that are open. At the end there is nothing to write."""
+        """Writes the open ones of these calls as lost. After the end of the history it writes nothing."""
         self.end_all([(it, Loss.UNKNOWN) for it in calls])
 
     def damage(self) -> Optional[str]:
-        """What somebody else did to a file, or None if each is as it was written."""
+        """Returns what another process did to a file, or None."""
         raise NotImplementedError
 
 
 class History(CallWriter):
-    """The file that a history text is written to.
+    """The file of a history text.
 
-    Each line is in the file, whole, when the method that writes it returns. Where a line can't be written, as
-    on a full disk, what was written of it is cut off again, HistoryError is raised, and the history is at its
-    end.
+    Each line is in the file, complete, when the method that writes it returns. If a line can't be written, as
+    on a full disk, the written part of it is removed, HistoryError is raised, and the history is ended.
     """
 
     def __init__(
@@ -288,11 +283,10 @@ class History(CallWriter):
         self._open: Set[int] = set()
         self._shards: Dict[str, int] = {}
         self._length = 0
-        # what the next line carries
+        # the note for the next line
         self._note = ""
         try:
-            # (unbuffered, at the end of the file whoever else may write there, and never over a file that is
-            # there)
+            # (unbuffered, always appending, and never overwriting a file)
             self._file = open(
                 path, "xb", buffering=0, opener=lambda path, flags: os.open(path, flags | os.O_APPEND, 0o666)
             )
@@ -301,7 +295,7 @@ class History(CallWriter):
 
     @property
     def open_calls(self) -> int:
-        """How many calls have no ending yet."""
+        """The number of open calls."""
         return len(self._open)
 
     @property
@@ -312,8 +306,8 @@ class History(CallWriter):
     def note(self, text: str) -> None:
         """Puts a note on the next line.
 
-        Notes before the same line stand together. What is no ASCII is escaped; a note is cut off behind 1,000
-        letters.
+        Several notes for the same line are joined. Characters outside ASCII are escaped, and a note is cut
+        off after 1,000.
         """
         plain = text.encode("ascii", "backslashreplace").decode()
         with self._lock:
@@ -354,7 +348,7 @@ class History(CallWriter):
         return [Call(self, number, it) for number, it in enumerate(operations, first)]
 
     def _on_other_shard(self, operation: Operation) -> CallError:
-        """Why an operation is refused that names a document on another shard than the first call did."""
+        """Returns the error if an operation names another shard for a document than its first call did."""
         shard = self._shards[operation.id]
         return CallError(f"the document {operation.id!r} is on shard {shard}, and not on {operation.shard}")
 
@@ -368,7 +362,7 @@ class History(CallWriter):
             if self.has_ended:
                 raise Ended
             if number not in self._open:
-                raise CallError(f"call {number} has its ending already")
+                raise CallError(f"call {number} has ended already")
             self._write(line_of_ending(number, self._now(), rest))
             self._open.remove(number)
             if isinstance(rest, Loss):
@@ -383,7 +377,7 @@ class History(CallWriter):
     def end_all(self, endings: Sequence[Ending]) -> None:
         rests: Dict[int, Rest] = {}
         for call, ending in endings:
-            # (of two endings of a call the first one counts)
+            # (if a call has two endings, the first one counts)
             rests.setdefault(call.number, rest_of(ending or Loss.UNKNOWN))
         with self._lock:
             if not self.has_ended:
@@ -397,10 +391,10 @@ class History(CallWriter):
                 )
 
     def end(self) -> None:
-        """Writes the calls that are open as lost, and closes the file; later calls, and endings of one call,
-        raise Ended.
+        """Writes the open calls as lost, and closes the file; later calls, and endings of a call, raise
+        Ended.
 
-        A file without a call is removed: an empty text would be a history, and a right one.
+        A file without a call is removed: an empty text would be a valid history.
         """
         with self._lock:
             try:
@@ -410,7 +404,7 @@ class History(CallWriter):
                 self._close()
 
     def damage(self) -> Optional[str]:
-        """What somebody else did to the file, or None if it is as it was written."""
+        """Returns what another process did to the file, or None."""
         with self._lock:
             if self.has_ended:
                 return None
@@ -435,7 +429,7 @@ class History(CallWriter):
                     os.remove(self.path)
 
     def _end_calls(self, endings: Sequence[Tuple[int, Rest]]) -> None:
-        """Writes the lines of endings together; counts them."""
+        """Writes and counts endings."""
         now = self._now()
         self._write("".join([line_of_ending(number, now, rest) for number, rest in endings]))
         lost = len([rest for _, rest in endings if isinstance(rest, Loss)])
@@ -444,7 +438,7 @@ class History(CallWriter):
         self.lost += lost
 
     def _lose(self, numbers: Sequence[int]) -> None:
-        """Writes the lines of lost calls, many of them together; counts them."""
+        """Writes and counts lost calls, many at a time."""
         behind = f',"t":{self._now()}}}\n'
         for at in range(0, len(numbers), MOST_LOST_AT_ONCE):
             some = numbers[at : at + MOST_LOST_AT_ONCE]
@@ -453,11 +447,11 @@ class History(CallWriter):
             self.lost += len(some)
 
     def _now(self) -> int:
-        """The time of day in milliseconds since 1970. No order is made of it."""
+        """Returns the time in milliseconds since 1970. It isn't used for any order."""
         return int(self._clock() * 1000)
 
     def _write(self, lines: str) -> None:
-        """Puts lines at the end of the file. Where that fails, what was written of them is cut off again."""
+        """Appends lines to the file. If that fails, the written part is removed."""
         data = lines.encode() if not self._note else self._noted(lines.encode())
         length = len(data)
         try:
@@ -471,7 +465,7 @@ class History(CallWriter):
         self._length += length
 
     def _noted(self, data: bytes) -> bytes:
-        """The lines with the note on the first of them, if it has room for it."""
+        """Returns the lines with the note on the first one, if it has room for it."""
         note = b'{"note":%s,' % compact(self._note).encode()
         if data.index(b"\n") + len(note) > LONGEST_LINE:
             return data
@@ -483,15 +477,15 @@ class History(CallWriter):
 
 
 def writing(operation: Operation) -> Operation:
-    """An operation, which is refused where it writes no value."""
+    """Returns the operation; raises CallError if it writes no value."""
     if operation.op not in WRITES_A_VALUE:
         raise CallError(f"a {operation.op} writes no value")
     return operation
 
 
 def numbered(operations: Sequence[Operation], first: int) -> List[Operation]:
-    """The operations of calls that are numbered from the first one; each that writes a value has the number
-    of its call as it."""
+    """Returns the operations with the number of its call as the value of each that writes one; `first` is the
+    first number."""
     return [
         it._replace(value=number) if it.op in WRITES_A_VALUE else it
         for number, it in enumerate(operations, first)

@@ -1,6 +1,6 @@
-"""A load on a store: clients that read and write a few documents at the same time, and are recorded.
+"""A recorded load on a store: clients that read and write a few documents concurrently.
 
-Recorders import from here: `Load`, what it takes, and what a `Store` of theirs returns.
+Recorders import `Load`, its arguments, and the results of a `Store` from here.
 """
 
 from .clients import (

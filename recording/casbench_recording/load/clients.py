@@ -1,14 +1,14 @@
-"""A load on a store: clients that read and write a few documents at the same time, and are recorded.
+"""The clients of a load, and the interface of a store.
 
     with History("carts.ndjson", most_events=10_000) as history:
         load = Load(history, seed=1)
         load.add_clients(8, store)
         load.run()
 
-What the store is, a `Store` says: how to connect to a node of it, what is sent for a call, and what its
-answer says. The rest is here: each client makes its calls one after another, and each call has its line
-before its request and its reply's line after the whole answer. A call whose answer doesn't come, or says
-nothing, is lost; then the client leaves the node for the next one.
+A `Store` implements how to connect to a node, what to send for a call, and what its answer means. Each client
+makes one call after another. The line of a call is written before its request is sent, and that of its reply
+after the complete answer. A call is lost if its answer doesn't come, or says nothing; then the client goes on
+to the next node.
 """
 
 import contextlib
@@ -39,24 +39,24 @@ from casbench_recording.history.writing import NoOutcome as NoOutcome
 WRITES = ("index", "create", "delete", "index-if", "delete-if")
 
 MIXTURE = {"get": 6, "index": 2, "create": 1, "delete": 1, "index-if": 6, "delete-if": 1}
-"""How often each kind of turn is drawn. `index-if` and `delete-if` read the document and write it under the
-pair that was read. `bulk`, for a store that takes such requests, makes several writes by one; their
-conditions are the pairs that the client received last."""
+"""The relative frequency of each kind of turn. `index-if` and `delete-if` read the document, and write it on
+the condition of its pair. `bulk`, for stores that support it, makes several writes by one request, on the
+condition of the pairs that the client received last."""
 
 ANY_NUMBER = 2**62
-"""The calls of a client that goes on until the history is full, or the load is over."""
+"""The number of calls of a client that goes on until the history is full, or the load is over."""
 
 RECONNECTS = 0.02
-"""After how many seconds a client tries the next node, if the one before couldn't be reached."""
+"""How many seconds a client waits before it tries the next node, if it couldn't connect."""
 
 
 class Unreachable(Exception):
-    """No connection to a node could be made, so nothing was asked."""
+    """No connection to a node could be made, so nothing was requested."""
 
 
 @contextlib.contextmanager
 def lost_by(*faults: Type[Exception]) -> Iterator[None]:
-    """Raises faults of these kinds as NoOutcome, so that the call is lost."""
+    """Converts exceptions of these types to NoOutcome, so that the call is lost."""
     try:
         yield
     except faults as fault:
@@ -64,7 +64,7 @@ def lost_by(*faults: Type[Exception]) -> Iterator[None]:
 
 
 class Kind(enum.Enum):
-    """What a store may say of an operation, as the table of replies in docs/RECORDING.md has it."""
+    """What the answer of a store may say, as in the table of replies of docs/RECORDING.md."""
 
     FOUND = "found"
     MISSING = "missing"
@@ -77,10 +77,9 @@ class Kind(enum.Enum):
 
 @dataclass(frozen=True)
 class Outcome:
-    """What an answer says of a call. `pair` is that of the change, or of the version that was found with the
-    value `k`. `seen` is the pair of the last change that the answer had seen, if the store says so: a witness
-    needs it of gets and conflicts.
-    """
+    """The answer to a call. `pair` is that of the change, or of the version that was found, with the value
+    `k`. `seen` is the pair of the last change that the answer had seen, if the store says so: a witness needs
+    it for gets and conflicts."""
 
     kind: Kind
     pair: Optional[Pair] = None
@@ -88,7 +87,7 @@ class Outcome:
     seen: Optional[Pair] = None
 
     def write(self, call: Call) -> None:
-        """Writes the reply to a call."""
+        """Writes the reply of a call."""
         if self.kind is Kind.MISSING:
             call.missing()
         elif self.kind is Kind.CONFLICT:
@@ -104,12 +103,12 @@ class Outcome:
 
     @property
     def there(self) -> Optional[Pair]:
-        """The pair of the document as this leaves it, if it is there."""
+        """The pair of the document after this answer, if the document exists."""
         return self.pair if self.kind in (Kind.FOUND, Kind.CREATED, Kind.UPDATED) else None
 
 
 class CallResult(Protocol):
-    """What an answer says of a call: an `Outcome`, or the reply as it came."""
+    """The answer to a call: an `Outcome`, or the reply as received."""
 
     @property
     def seen(self) -> Optional[Pair]:
@@ -117,38 +116,39 @@ class CallResult(Protocol):
 
     @property
     def there(self) -> Optional[Pair]:
-        """The pair of the document as this leaves it, if it is there."""
+        """The pair of the document after this answer, if the document exists."""
 
     def write(self, call: Call) -> None:
-        """Writes the reply to a call. Raises NoOutcome if it is none."""
+        """Writes the reply of a call. Raises NoOutcome if it is none."""
 
 
 class Session(Protocol):
-    """A connection of one client to one node. It sends each request once and tries nothing again."""
+    """A connection of one client to one node. It sends each request once, and never again."""
 
     @property
     def is_open(self) -> bool:
-        """Whether it can be asked; one that the node has closed is left before the next call."""
+        """Whether a request can be sent. If the node has closed it, the client leaves it before the next
+        call."""
 
     def send(self, call: Call) -> None:
-        """Sends what the call asks. Raises NoOutcome if it may not have been sent whole."""
+        """Sends the request of a call. Raises NoOutcome if it may not have been sent completely."""
 
     def outcome(self, call: Call) -> CallResult:
-        """Waits for the answer to what was sent, as long as the store's deadline for a call, and returns what
-        it says. Raises NoOutcome."""
+        """Waits for the answer to the request, up to the store's deadline, and returns it. Raises
+        NoOutcome."""
 
     def close(self) -> None:
-        """Closes the connection, also if an answer is owed."""
+        """Closes the connection, even if an answer is outstanding."""
 
 
 class BulkSession(Session, Protocol):
-    """A session that takes several writes by one request."""
+    """A session that supports several writes in one request."""
 
     def send_all(self, calls: Sequence[Call]) -> None:
-        """Sends what the calls ask. Raises NoOutcome."""
+        """Sends the request of several calls. Raises NoOutcome."""
 
     def outcomes(self, calls: Sequence[Call]) -> Sequence[Optional[CallResult]]:
-        """Waits for the answer, and returns what it says of each call, or None where it says nothing. Raises
+        """Waits for the answer, and returns what it says about each call, or None if it says nothing. Raises
         NoOutcome."""
 
 
@@ -158,29 +158,29 @@ class Store(Protocol):
     nodes: int
 
     def connect(self, node: int) -> Session:
-        """A connection to a node, counted from 0. Raises Unreachable."""
+        """Connects to a node, numbered from 0. Raises Unreachable."""
 
 
 @runtime_checkable
 class NamedStore(Store, Protocol):
-    """A store whose nodes have names, which the lines of calls have."""
+    """A store whose nodes have names, which are written to the lines of calls."""
 
     names: Sequence[str]
 
 
 class Draw:
-    """What is drawn from a seed. `random()` alone is called: its numbers are the same in every release of
-    Python."""
+    """Random choices from a seed. Only `random()` is called, since its numbers are the same in every release
+    of Python."""
 
     def __init__(self, seed: str) -> None:
         self.random = random.Random(seed).random
 
     def below(self, count: int) -> int:
-        """A number from 0 up to the one before count."""
+        """Returns an integer from 0 to count - 1."""
         return int(self.random() * count)
 
     def one_of(self, weights: Mapping[str, int]) -> str:
-        """One of the names, each as often as its weight says."""
+        """Returns one of the names, according to their weights."""
         left = self.below(sum(weights.values()))
         for name, weight in weights.items():
             if left < weight:
@@ -189,15 +189,15 @@ class Draw:
         raise ValueError("no weights")
 
     def between(self, least: float, most: float) -> float:
-        """A number between these bounds."""
+        """Returns a number between these bounds."""
         return least + self.random() * (most - least)
 
 
 @dataclass(frozen=True)
 class Habits:
-    """What a client does: how often which turn, on how many documents, how many of a thousand answers it
-    drops, whether it stays with its node after a fault, how many calls it makes at most, and how many writes
-    a bulk request of it has."""
+    """How a client behaves: the frequency of each kind of turn, the number of documents, how many of a
+    thousand answers it drops, whether it stays with its node after a fault, the maximum number of its calls,
+    and the number of writes in a bulk request."""
 
     mixture: Mapping[str, int]
     documents: int = 8
@@ -208,7 +208,7 @@ class Habits:
 
     @property
     def writes(self) -> Mapping[str, int]:
-        """How often each kind of write is drawn in a bulk request."""
+        """The frequency of each kind of write in a bulk request."""
         weights = {it: self.mixture.get(it, 0) for it in WRITES}
         return weights if any(weights.values()) else {"index": 1}
 
@@ -217,7 +217,7 @@ Received = TypeVar("Received")
 
 
 class Client(threading.Thread):
-    """One client: it makes its calls one after another, and records each."""
+    """A client, which makes one call after another and records each."""
 
     def __init__(self, load: "Load", store: Store, node: int, habits: Habits, draw: Draw) -> None:
         super().__init__(daemon=True)
@@ -231,18 +231,18 @@ class Client(threading.Thread):
         self.session: Optional[Session] = None
         self.names = store.names if isinstance(store, NamedStore) else [""] * store.nodes
         self.calls = 0
-        # of each document the pair that the client received last
+        # the last pair that the client received, by document
         self.known: Dict[str, Pair] = {}
 
     def run(self) -> None:
-        """Makes calls until no more are to be made."""
+        """Makes calls until the load is over."""
         try:
             while True:
                 self.take_turn()
         except Ended:
             pass
         except BaseException as fault:
-            # (it is raised again where the load is run)
+            # (`Load.run` raises it again)
             self.load.faults.append(fault)
         finally:
             self.leave()
@@ -261,25 +261,26 @@ class Client(threading.Thread):
             self.make(operation_of(kind, document, pair))
 
     def document(self) -> str:
-        """The id of some document."""
+        """Returns the id of a random document."""
         return f"d{self.draw.below(self.habits.documents)}"
 
     def make(self, it: Operation) -> Optional[Pair]:
-        """Makes one call; returns the pair of the document, if it is there then."""
+        """Makes a call; returns the pair of the document, if it exists then."""
         session = self.connected()
         (call,) = self.begin([it])
         with call:
             try:
                 session.send(call)
-                told = self.received(lambda: session.outcome(call))
-                told.write(call)
+                result = self.received(lambda: session.outcome(call))
+                result.write(call)
             except NoOutcome:
                 self.leave()
                 return None
-        return self.learn(call, told)
+        return self.learn(call, result)
 
     def make_bulk(self, operations: Sequence[Operation]) -> None:
-        """Makes one bulk request. Its items are calls of their own, all made before any is answered."""
+        """Makes a bulk request. Its items are separate calls, all of which are made before any is
+        answered."""
         session = cast(BulkSession, self.connected())
         calls = self.begin(operations[: min(self.left, self.load.history.room)])
         outcomes: Sequence[Optional[CallResult]] = [None] * len(calls)
@@ -288,11 +289,11 @@ class Client(threading.Thread):
             outcomes = self.received(lambda: session.outcomes(calls))
         except NoOutcome:
             self.leave()
-        for call, told in zip(calls, outcomes):
+        for call, result in zip(calls, outcomes):
             with call, contextlib.suppress(NoOutcome):
-                if told is not None:
-                    told.write(call)
-                    self.learn(call, told)
+                if result is not None:
+                    result.write(call)
+                    self.learn(call, result)
 
     def begin(self, operations: Sequence[Operation]) -> List[Call]:
         """Writes the lines of calls. The value of a write is the number of its call."""
@@ -304,18 +305,19 @@ class Client(threading.Thread):
         return calls
 
     def received(self, receive: Callable[[], Received]) -> Received:
-        """The answer, unless it is dropped: the connection breaks before it came, or when it is there."""
+        """Returns the answer, unless it is dropped: then the connection breaks before or after it is
+        received."""
         if self.draw.below(1000) >= self.habits.dropped:
             return receive()
         if self.draw.below(2):
             receive()
         raise NoOutcome("dropped")
 
-    def learn(self, call: Call, told: CallResult) -> Optional[Pair]:
-        """Keeps what an answer says; returns the pair of the document, if it is there then."""
-        if told.seen is not None:
-            self.load.seen[call.number] = told.seen
-        there = told.there
+    def learn(self, call: Call, result: CallResult) -> Optional[Pair]:
+        """Keeps what an answer says; returns the pair of the document, if it exists then."""
+        if result.seen is not None:
+            self.load.seen[call.number] = result.seen
+        there = result.there
         if there is None:
             self.known.pop(call.operation.id, None)
         else:
@@ -328,7 +330,8 @@ class Client(threading.Thread):
         return self.habits.calls - self.calls
 
     def connected(self) -> Session:
-        """The connection, made before the call is recorded. Raises Ended if no more calls are to be made."""
+        """Returns the connection, which is made before the call is recorded. Raises Ended if the load is
+        over."""
         while self.left > 0 and not self.load.is_over():
             if self.session is not None and self.session.is_open:
                 return self.session
@@ -354,8 +357,8 @@ class Client(threading.Thread):
 
 
 def operation_of(kind: str, id: str, pair: Optional[Pair]) -> Operation:
-    """The call of a kind. A write under a condition is, if no pair is known, one that needs nothing to be
-    there."""
+    """Returns the operation of a kind of turn. A conditional write without a known pair is a create, or has
+    no condition."""
     op, _, is_swap = kind.partition("-")
     if not is_swap:
         return Operation(op, id)
@@ -363,8 +366,8 @@ def operation_of(kind: str, id: str, pair: Optional[Pair]) -> Operation:
 
 
 class Load:
-    """Clients of one history. It notes by the number of each answered call what its answer had seen, for a
-    witness."""
+    """The clients of a history. For a witness, it keeps what each answer had seen, by the number of the
+    call."""
 
     def __init__(self, history: CallWriter, seed: int, has_ended: Callable[[], bool] = lambda: False) -> None:
         self.history, self.seed, self.has_ended = history, seed, has_ended
@@ -377,7 +380,7 @@ class Load:
     def add_clients(
         self, count: int, store: Store, habits: Habits = Habits(MIXTURE), node: Optional[int] = None
     ) -> List[Client]:
-        """Adds clients; each begins with the node that is named, else with another one."""
+        """Adds clients; they start with the given node, or else with different ones."""
         first = len(self.clients)
         added = [
             Client(self, store, it if node is None else node, habits, Draw(f"{self.seed}/{it}"))
@@ -387,12 +390,12 @@ class Load:
         return added
 
     def is_over(self) -> bool:
-        """Whether no more calls are made."""
+        """Returns whether no more calls are made."""
         return bool(self.faults) or not self.history.room or self.has_ended()
 
     def run(self, disturb: Callable[[], None] = lambda: None, calls_between: int = 600) -> None:
-        """Runs the clients until all have made their calls, and disturbs the store each time there are so
-        many more. If it is interrupted it doesn't wait for calls that are open."""
+        """Runs the clients until all have made their calls, and disturbs the store after each `calls_between`
+        calls. If it is interrupted, it doesn't wait for open calls."""
         for client in self.clients:
             client.start()
         try:
@@ -407,13 +410,13 @@ class Load:
             raise self.faults[0]
 
     def wait_for(self, calls: int) -> bool:
-        """Waits until there are so many calls; returns whether more are made."""
+        """Waits until there are this many calls; returns whether the load goes on."""
         while self.history.calls < calls and self.is_running():
             time.sleep(0.005)
         return self.is_running()
 
     def wait_for_each(self, clients: List[Client], most: float) -> None:
-        """Waits until each of these clients has made one more call, so many seconds at most."""
+        """Waits until each of these clients has made one more call, for `most` seconds at most."""
         before, last = [it.calls for it in clients], time.monotonic() + most
         while (
             any(it.calls == calls for it, calls in zip(clients, before))
@@ -423,27 +426,27 @@ class Load:
             time.sleep(0.005)
 
     def is_running(self) -> bool:
-        """Whether a client makes calls."""
+        """Returns whether a client is making calls."""
         return not self.is_over() and any(it.is_alive() for it in self.clients)
 
     def wait(self, least: float, most: float) -> None:
-        """Waits some seconds, drawn between these bounds."""
+        """Waits for a random time between these bounds, in seconds."""
         time.sleep(self.draw.between(least, most))
 
     def hold(self, clients: List[Client]) -> None:
-        """Has clients make no further turn until they are released."""
+        """Pauses clients after their current turn, until they are released."""
         for it in clients:
             self.held.setdefault(it, threading.Event())
 
     def release(self, clients: List[Client]) -> None:
-        """Has clients go on."""
+        """Resumes clients."""
         for it in clients:
             event = self.held.pop(it, None)
             if event is not None:
                 event.set()
 
     def wait_if_held(self, client: Client) -> None:
-        """Waits while this client is held."""
+        """Waits while this client is paused."""
         event = self.held.get(client)
         if event is not None:
             event.wait()

@@ -1,4 +1,4 @@
-"""An OpenSearch cluster as a store of a load: the requests of its calls, and what the answers say of them."""
+"""An OpenSearch cluster as the store of a load: the requests of its calls, and the meaning of the answers."""
 
 import argparse
 import json
@@ -14,7 +14,7 @@ from casbench_recording.shard_routing import PRIMARY
 
 
 def condition_of(operation: Operation) -> Dict[str, int]:
-    """The condition of a call, as it is spelled in a request, or nothing."""
+    """Returns the condition of a call as parameters of its request."""
     pair = operation.condition
     return {"if_seq_no": pair.seq, "if_primary_term": pair.term} if pair is not None else {}
 
@@ -22,7 +22,7 @@ def condition_of(operation: Operation) -> Dict[str, int]:
 def request_of(
     index: str, operation: Operation, asks_primary: bool = False
 ) -> Tuple[str, str, Optional[str]]:
-    """The method, path and body of the request of one call; a get may be one that the primary answers."""
+    """Returns the method, path and body of a call's request; a get may be sent to the primary."""
     method = {"get": "GET", "index": "PUT", "create": "PUT", "delete": "DELETE"}[operation.op]
     room = "_create" if operation.op == "create" else "_doc"
     parameters: Dict[str, Any] = (
@@ -34,12 +34,12 @@ def request_of(
 
 
 def source_of(operation: Operation) -> Optional[str]:
-    """The source that a call writes, if any."""
+    """Returns the source that a call writes, if any."""
     return None if operation.value is None else json.dumps({"k": operation.value})
 
 
 def bulk_of(index: str, operations: Sequence[Operation]) -> Tuple[str, str, str]:
-    """The method, path and body of a bulk request of several calls."""
+    """Returns the method, path and body of a bulk request."""
     lines = []
     for operation in operations:
         lines.append(json.dumps({operation.op: {"_id": operation.id, **condition_of(operation)}}))
@@ -48,23 +48,23 @@ def bulk_of(index: str, operations: Sequence[Operation]) -> Tuple[str, str, str]
 
 
 def items_of(operations: Sequence[Operation], answer: ClusterAnswer) -> List[Optional[Dict[str, Any]]]:
-    """What a bulk request's answer says of each call, or None for each where it can't be determined."""
+    """Returns what the answer to a bulk request says about each call, or None if that can't be determined."""
     items = answer.members.get("items") if answer.status == 200 else None
     if not isinstance(items, list) or len(items) != len(operations):
         return [None] * len(operations)
-    return [told_by(item, operation.op) for item, operation in zip(items, operations)]
+    return [outcome_of(item, operation.op) for item, operation in zip(items, operations)]
 
 
-def told_by(item: Any, action: str) -> Optional[Dict[str, Any]]:
-    """What an item of a bulk request's answer says of its action, or None where it can't be determined."""
-    told = item.get(action) if isinstance(item, dict) else None
-    status = told.get("status") if isinstance(told, dict) else None
-    return told if type(status) is int and 0 <= status <= 65_535 else None
+def outcome_of(item: Any, action: str) -> Optional[Dict[str, Any]]:
+    """Returns what an item of the answer says about its action, or None if that can't be determined."""
+    outcome = item.get(action) if isinstance(item, dict) else None
+    status = outcome.get("status") if isinstance(outcome, dict) else None
+    return outcome if type(status) is int and 0 <= status <= 65_535 else None
 
 
 @dataclass(frozen=True)
 class ClusterReply:
-    """A reply as it came, and the members of its body."""
+    """A reply as received, and the members of its body."""
 
     status: int
     body: ReplyBody
@@ -73,11 +73,11 @@ class ClusterReply:
 
     @property
     def there(self) -> Optional[Pair]:
-        """The pair of the document as this leaves it, if it is there."""
+        """The pair of the document after this reply, if the document exists."""
         return None if self.members.get("result") in ("deleted", "not_found") else pair_of(self.members)
 
     def write(self, call: Call) -> None:
-        """Writes the reply to a call, or that it was not performed, if the reply proves that of a write."""
+        """Writes the reply of a call; or that a write was not performed, if the reply proves that."""
         if call.operation.op != "get" and is_unperformed(self.status, self.members):
             call.void()
         else:
@@ -92,7 +92,7 @@ class ClusterSession:
 
     @property
     def is_open(self) -> bool:
-        """Whether it can be asked."""
+        """Whether a request can be sent."""
         return self.connection.is_open
 
     def send(self, call: Call) -> None:
@@ -100,7 +100,7 @@ class ClusterSession:
         self.connection.send(*request_of(self.index, call.operation, self.asks_primary))
 
     def outcome(self, call: Call) -> ClusterReply:
-        """The reply to it."""
+        """Returns the reply."""
         answer = self.connection.receive()
         return ClusterReply(answer.status, answer.body, answer.members)
 
@@ -109,7 +109,7 @@ class ClusterSession:
         self.connection.send(*bulk_of(self.index, [it.operation for it in calls]))
 
     def outcomes(self, calls: Sequence[Call]) -> List[Optional[ClusterReply]]:
-        """What the answer to it says of each call."""
+        """Returns what the answer says about each call."""
         answer = self.connection.receive()
         if is_unperformed(answer.status, answer.members, is_handed_on=len(calls) > 1):
             return [ClusterReply(answer.status, answer.body, answer.members)] * len(calls)
@@ -122,17 +122,17 @@ class ClusterSession:
 
 
 class ClusterStore:
-    """The nodes of a cluster. Who connects waits for it as long as patience says, and no longer than the load
-    lasts."""
+    """The nodes of a cluster. A client waits for a connection for --patience seconds, and not longer than the
+    load."""
 
     def __init__(self, setting: argparse.Namespace, is_over: Callable[[], bool]) -> None:
         self.setting, self.is_over = setting, is_over
         self.nodes = len(setting.clusters)
-        # (one alone isn't named)
+        # (a single node isn't named)
         self.names = [name_of(it.url) for it in setting.clusters] if self.nodes > 1 else [""]
 
     def connect(self, node: int) -> ClusterSession:
-        """A connection to a node. Raises ClusterError, which ends the recording."""
+        """Connects to a node. Raises ClusterError, which ends the recording."""
         connection = Connection(self.setting.clusters[node])
         connection.open(self.setting.patience, self.is_over)
         return ClusterSession(connection, self.setting.index, self.setting.asks_primary)

@@ -1,8 +1,8 @@
-"""The proxy: records what the clients of an application ask of a cluster.
+"""The proxy, which records the requests of an application's clients.
 
-`command` has its command line and `server` what runs. `http` is about connections and messages, `routing`
-about what a request asks, `recording` about the lines that are written for it, and `state` about what is
-known of documents meanwhile.
+`command` is its command line, and `server` the running proxy. The subpackages are `http` (connections and
+messages), `routing` (what a request does, by its method, path and query), `recording` (the calls and replies
+that are written), and `state` (what is known of the documents).
 """
 
 from .command import main

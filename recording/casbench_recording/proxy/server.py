@@ -1,5 +1,4 @@
-"""The proxy at work: the nodes that it serves, its clients, how much it holds for them, and the recording of
-what they ask."""
+"""The running proxy: its nodes, its clients, the memory that it holds for them, and its recording."""
 
 import argparse
 import functools
@@ -9,7 +8,7 @@ from dataclasses import replace
 from typing import Callable, Iterator, List, NamedTuple, Optional, Sequence, Set
 
 from casbench_recording.cluster import ClusterAccess
-from casbench_recording.console import tell_line
+from casbench_recording.console import report_line
 from casbench_recording.default_reading import DefaultReading
 from casbench_recording.disturb import Disturbance
 from casbench_recording.history.readings import Reading, is_named
@@ -29,34 +28,34 @@ from .routing.routes import shown_request
 from .state.documents import DocumentState
 
 MOST_HELD = 64 * 1024 * 1024
-"""How many bytes may wait on all connections together before no more bodies are held back to be read."""
+"""The total number of buffered bytes above which no more bodies are held back for reading."""
 
 MOST_WAITING = 2 * MOST_HELD
-"""How many bytes may wait on all connections together before the one that has most of them is closed."""
+"""The total number of buffered bytes above which the connection with the most of them is closed."""
 
 MOST_CLIENTS = 8192
-"""How many clients are served at once, if the system gives so many descriptors."""
+"""The maximum number of clients, if the limit of open files allows it."""
 
 SPARE = 32
-"""How many descriptors are kept for all but the connections of clients."""
+"""How many file descriptors are reserved for other purposes than clients."""
 
 LEAST_IDLE = 1.0
-"""For how many seconds nothing happened on a connection that is closed to make room for another one."""
+"""How many seconds a connection has to be idle to be closed in favour of a new one."""
 
 ADVICE = (
     "requests are still passed on, and no longer recorded: end the proxy, check what was recorded, "
     "and record again on an empty index"
 )
-"""What the operator does about a recording that ended early."""
+"""What the operator should do about a recording that ended early."""
 
 SECONDS_BETWEEN = 10.0
-"""How many seconds lie between two lines that tell that too many clients are there."""
+"""The minimum number of seconds between two messages that there are too many clients."""
 
 
 class ProxiedNode(NamedTuple):
-    """A node of the cluster: where its clients ask, where it is, its addresses and its name, which are of
-    that, how the paths of requests lead to it, and the host that stands in those that are passed on, if it
-    isn't the clients' own."""
+    """A node of the cluster: the address to listen on for its clients; how to reach it, its IP addresses and
+    its name; how the paths of requests lead to it; and the host to set in requests, or an empty one to keep
+    that of the client."""
 
     host: str
     port: int
@@ -68,7 +67,7 @@ class ProxiedNode(NamedTuple):
 
 
 class RefusedConnection:
-    """A connection that is told that there is no room for it."""
+    """A connection for which there is no room: it is answered with status 503."""
 
     def __init__(self, loop: Loop, connection: socket.socket) -> None:
         self.stream = Stream(loop, connection, self)
@@ -76,23 +75,23 @@ class RefusedConnection:
         self.stream.linger()
 
     def received(self, data: bytes) -> None:
-        """Takes nothing."""
+        """Ignores the data."""
 
     def ended(self) -> None:
-        """Needs to do nothing: the connection is closed."""
+        """Does nothing: the connection is closed."""
 
     def pause_writing(self) -> None:
-        """Writes no more."""
+        """Writes nothing more."""
 
     def resume_writing(self) -> None:
-        """Writes no more."""
+        """Writes nothing more."""
 
     def connection_lost(self) -> None:
-        """Has nothing to end."""
+        """Has nothing to release."""
 
 
 class Proxy:
-    """The proxy: its nodes, its clients, and the judge of what they ask."""
+    """The proxy: its nodes, its clients, and the judge of their requests."""
 
     def __init__(
         self, setting: argparse.Namespace, nodes: Sequence[ProxiedNode], inspector: Inspector, judge: Judge
@@ -104,18 +103,18 @@ class Proxy:
         self.clients: Set[ClientConnection] = set()
         self.loop = Loop()
         self._listeners: List[Listener] = []
-        # (None once the index was found, or the recording ended)
+        # (None after the index was found, or the recording ended)
         self.discovery: Optional[IndexDiscovery] = (
             None if judge.shape is not None else IndexDiscovery(self.loop, inspector, setting.index, judge)
         )
-        # how many bytes of messages are kept
+        # how many bytes of messages are buffered
         self.held = 0
-        self._told_of_room = float("-inf")
-        # until when the recording waits, if the index isn't empty
+        self._reported_room_at = float("-inf")
+        # the time until which recording is delayed, if the index isn't empty
         self._settles_to = self.loop.now + setting.settle
         self._has_warned_of_nodes = False
         judge.writer.on_ended = self._ended
-        # which check fits, which is reported once the index is known
+        # the check that fits, which is reported when the index is known
         self.default_reading = DefaultReading(setting.file, judge.history, len(nodes), is_named(setting))
         self.default_reading.on_reading = self._judged_in
         # the watch of the recording, if there is one
@@ -124,25 +123,25 @@ class Proxy:
         self.loop.ticks[self._tick] = None
 
     def begin(self) -> List[str]:
-        """Takes what is known of the index at first; the lines on it, which are reported behind the
+        """Takes the description of the index at the start; returns messages on it, to be reported after the
         addresses."""
         lines: List[str] = []
         if self.judge.shape is not None:
             self._found(self.judge.shape, lambda text: lines.append(f"casbench_recording.proxy: {text}"))
         return lines
 
-    def _found(self, shape: Shape, tell: Callable[[str], object] = tell_line) -> None:
-        """Takes what the index is, for which check fits, and for when the recording begins: if others wrote
-        to the index, once what they asked is over."""
-        self.default_reading.take(shape, tell)
+    def _found(self, shape: Shape, report: Callable[[str], object] = report_line) -> None:
+        """Takes the description of the index: it decides which check fits, and when the recording begins. If
+        others wrote to the index, it begins once their requests are over."""
+        self.default_reading.take(shape, report)
         seconds = self._settles_to - self.loop.now
         if not shape.is_empty and self.judge.documents.first is DocumentState.UNSURE and seconds > 0:
             self.judge.settle()
             begins = f"the index {shape.name} isn't empty: the recording begins in {seconds:.0f} s"
-            tell(f"{begins}, and requests are passed on meanwhile (--settle)")
+            report(f"{begins}, and requests are passed on meanwhile (--settle)")
 
     def plan(self) -> List[Disturbance]:
-        """The disturbances that are planned, whose times count from the beginning of the recording."""
+        """Returns the planned disturbances, with times since the start of the recording."""
         waits = self.setting.settle if self.judge.documents.is_settling else 0.0
         return [replace(it, after=it.after + waits) for it in self.setting.disturb]
 
@@ -153,8 +152,8 @@ class Proxy:
             self.watcher.change(watch_options(self.setting))
 
     def accept(self, node: ProxiedNode, connection: socket.socket) -> None:
-        """Takes a client's connection, to a node. If there are too many the one that was idle longest is
-        closed, or this one is refused."""
+        """Accepts the connection of a client of a node. If there are too many, closes the one that was idle
+        longest, or refuses this one."""
         if len(self.clients) >= self.most_clients:
             waited = self.loop.now - LEAST_IDLE
             idle = min(
@@ -163,7 +162,7 @@ class Proxy:
                 default=None,
             )
             if idle is None:
-                self._tell_no_room()
+                self._report_no_room()
                 RefusedConnection(self.loop, connection)
                 return
             idle.stream.abort()
@@ -172,49 +171,48 @@ class Proxy:
 
     @property
     def most_clients(self) -> int:
-        """For how many clients there are descriptors."""
+        """For how many clients there are file descriptors."""
         limit, _ = resource.getrlimit(resource.RLIMIT_NOFILE)
         return max(1, min(MOST_CLIENTS, (limit - SPARE - len(self.judge.history.histories)) // 2))
 
-    def _tell_no_room(self) -> None:
-        """Tells the operator, now and then, that clients are refused."""
-        if self.loop.now >= self._told_of_room + SECONDS_BETWEEN:
-            self._told_of_room = self.loop.now
-            tell_line(f"{len(self.clients)} clients are connected, and more are answered with status 503")
+    def _report_no_room(self) -> None:
+        """Reports, from time to time, that clients are refused."""
+        if self.loop.now >= self._reported_room_at + SECONDS_BETWEEN:
+            self._reported_room_at = self.loop.now
+            report_line(f"{len(self.clients)} clients are connected, and more are answered with status 503")
 
     def warn_of_nodes(self, request: Request) -> None:
-        """Warns the operator, once, that a client asks where the nodes are, and may then ask them past the
-        proxy."""
+        """Warns the operator, once, that a client asks for the nodes, and may then bypass the proxy."""
         if not self._has_warned_of_nodes:
             self._has_warned_of_nodes = True
             request_line = shown_request(request.method, request.target.partition(b"?")[0].decode("latin-1"))
             advice = "what it asks them itself isn't recorded, so turn sniffing off"
-            tell_line(f"a client asks where the nodes are ({request_line}): {advice}")
+            report_line(f"a client asks where the nodes are ({request_line}): {advice}")
 
     def connect(self, node: ProxiedNode, made: Made) -> Connecting:
-        """Makes a connection to a node of the cluster."""
+        """Starts to connect to a node of the cluster."""
         return Connecting(self.loop, node.addresses, made)
 
     def work(self, steps: Iterator[None], done: Callable[[], None]) -> None:
-        """Does work in steps, between which others have their turn."""
+        """Does work in steps, between which other events are handled."""
         for _ in steps:
             self.loop.later(lambda: self.work(steps, done))
             return
         done()
 
     def has_room(self) -> bool:
-        """Whether more may be held back."""
+        """Returns whether more may be held back."""
         return self.held + self.loop.waiting <= MOST_HELD
 
     def hold(self, count: int) -> None:
-        """Heeds that so many bytes more are kept. If it is too much the client that has most of it is given
-        up."""
+        """Accounts for this many more buffered bytes. If there are too many, the client with the most of them
+        is disconnected."""
         self.held += count
         if self.held + self.loop.waiting > MOST_WAITING:
             self.loop.soon(self._shed)
 
     def _shed(self) -> None:
-        """Gives up the client for which most waits, while too much does."""
+        """Disconnects the client with the most buffered bytes, as long as there are too many."""
         while self.clients and self.held + self.loop.waiting > MOST_WAITING:
             most = max(self.clients, key=ClientConnection.weight)
             most.close()
@@ -222,36 +220,36 @@ class Proxy:
             most.connection_lost()
 
     def _ended(self, why: str) -> None:
-        """Says at once that the recording ended before its time, and what to do; ends the proxy too if that
-        is asked for."""
+        """Reports at once that the recording ended early, and what to do; ends the proxy too with
+        --stop-when-ended."""
         if self.setting.stop_when_ended:
             self.loop.stop()
         advice = "the proxy ends" if self.setting.stop_when_ended else ADVICE
-        tell_line(f"the recording ended early: {why}; {advice}")
+        report_line(f"the recording ended early: {why}; {advice}")
 
     def _tick(self, now: float) -> None:
-        """Looks at what takes too long, and at the files."""
+        """Checks timeouts, and whether the files were changed."""
         for client in list(self.clients):
             client.check_timeouts(now, self.setting.idle)
         if self.judge.documents.is_settling and now >= self._settles_to:
             self.judge.settled()
-            tell_line("the recording begins")
+            report_line("the recording begins")
         if self.discovery is not None and self.discovery.is_over and not self.discovery.has_queue:
             self.discovery = None
         damage = next(filter(None, (it.damage() for it in self.judge.history.histories)), None)
         if damage is not None:
             self.judge.end(damage)
 
-    def listen(self, tell_address: Callable[[str], object]) -> None:
-        """Listens for the clients of each node, and reports the address."""
+    def listen(self, report_address: Callable[[str], object]) -> None:
+        """Listens for the clients of each node, and reports the addresses."""
         for node in self.nodes:
             own = self.loop.listen(node.host, node.port, functools.partial(self.accept, node))
             shown = f"[{node.host}]" if ":" in node.host else node.host
-            tell_address(f"http://{shown}:{own[0].port}")
+            report_address(f"http://{shown}:{own[0].port}")
             self._listeners += own
 
     def serve(self) -> None:
-        """Serves until the loop is stopped. What is open then is lost, and every connection is closed."""
+        """Serves until the loop is stopped. Open calls are lost then, and all connections are closed."""
         self.loop.run()
         for it in self._listeners:
             it.close()

@@ -9,38 +9,39 @@ Answer = Tuple[int, Any]
 """A status and a body."""
 
 RequestParameters = Mapping[str, Any]
-"""The words of a request's query, or those of one document's place in a request of several."""
+"""The parameters of a request, or those of one document in a multi-get or a bulk request."""
 
 
 def error(status: int, kind: str, reason: str, **more: Any) -> Answer:
-    """The answer that reports an error."""
+    """Returns the answer with an error."""
     cause = {"type": kind, "reason": reason, **more}
     return status, {"error": {"root_cause": [cause], **cause}, "status": status}
 
 
 def no_index(name: str) -> Answer:
-    """The answer if an index isn't there."""
+    """Returns the answer if an index doesn't exist."""
     return error(404, "index_not_found_exception", f"no such index [{name}]", index=name)
 
 
 def no_document(document: str) -> Answer:
-    """The answer to an update of a document that isn't there."""
+    """Returns the answer to an update of a document that doesn't exist."""
     return error(404, "document_missing_exception", f"[{document}]: document missing")
 
 
 def rejected(what: str) -> Answer:
-    """The answer of a node that has too much to do. Nothing was performed by the attempt that it answers."""
+    """Returns the answer of an overloaded node. The attempt that it answers performed nothing."""
     return error(429, "opensearch_rejected_execution_exception", f"rejected execution of {what}")
 
 
 def pair_of(parameters: RequestParameters) -> Optional[Tuple[int, int]]:
-    """The condition that words name, if any: a term and a number."""
+    """Returns the condition in the parameters, if any: a term and a number."""
     number, term = parameters.get("if_seq_no"), parameters.get("if_primary_term")
     return None if number is None or term is None else (int(term), int(number))
 
 
 def shown(index: str, document: str, entry: Optional[Entry], parameters: RequestParameters) -> Answer:
-    """The answer to a get that shows this change of the document, or that the document isn't there."""
+    """Returns the answer to a get that shows this change of the document, or that the document doesn't
+    exist."""
     if entry is None or entry.source is None:
         return 404, {"_index": index, "_id": document, "found": False}
     body = {"_index": index, "_id": document, "_version": entry.changes, "_seq_no": entry.number}
@@ -48,7 +49,7 @@ def shown(index: str, document: str, entry: Optional[Entry], parameters: Request
 
 
 def shown_source(source: Dict[str, Any], parameters: RequestParameters) -> Dict[str, Any]:
-    """The member of an answer that shows the source, or what the words leave of it."""
+    """Returns the member with the source, as far as the parameters select it."""
     wanted = parameters.get("_source", "true")
     if wanted in ("false", False) or "stored_fields" in parameters:
         return {}
@@ -59,7 +60,7 @@ def shown_source(source: Dict[str, Any], parameters: RequestParameters) -> Dict[
 
 
 def performed(shard: ShardId, entry: Entry, was_there: bool, shards: Dict[str, int]) -> Answer:
-    """The answer to a write that was performed."""
+    """Returns the answer to a performed write."""
     if entry.source is None:
         status, result = (200, "deleted") if was_there else (404, "not_found")
     else:
@@ -75,14 +76,14 @@ def performed(shard: ShardId, entry: Entry, was_there: bool, shards: Dict[str, i
 
 
 def unchanged(shard: ShardId, entry: Entry) -> Answer:
-    """The answer to an update that would change nothing."""
+    """Returns the answer to an update that would change nothing."""
     body = {"_index": shard.index_name, "_id": entry.document, "_version": entry.changes, "result": "noop"}
     shards = {"total": 0, "successful": 0, "failed": 0}
     return 200, {**body, "_shards": shards, "_seq_no": entry.number, "_primary_term": entry.term}
 
 
 def conflict(shard: ShardId, document: str, last: Optional[Entry], parameters: RequestParameters) -> Answer:
-    """The answer to a write that met a conflict; its reason names the pair that the primary has."""
+    """Returns the answer to a write with a conflict; its reason has the pair of the primary."""
     condition = pair_of(parameters)
     if condition is not None:
         why = f"required seqNo [{condition[1]}], primary term [{condition[0]}]. "

@@ -1,23 +1,23 @@
-"""Waiting until something holds of the cluster."""
+"""Waiting for conditions on the state of the cluster."""
 
 import asyncio
 from typing import Callable, Dict, Optional
 
 
 class Changes:
-    """Wakes those that wait when something changed, so that they look again."""
+    """Wakes waiting tasks when something has changed, so that they test their conditions again."""
 
     def __init__(self) -> None:
         self._waiting: Dict["asyncio.Future[None]", None] = {}
 
     def notify(self) -> None:
-        """Wakes all that wait."""
+        """Wakes all waiting tasks."""
         for it in self._waiting:
             if not it.done():
                 it.set_result(None)
 
     async def until(self, holds: Callable[[], bool], seconds: Optional[float] = None) -> None:
-        """Waits until it holds, or for these seconds at most."""
+        """Waits until the condition holds, or for these seconds at most."""
         loop = asyncio.get_running_loop()
         end = None if seconds is None else loop.time() + seconds
         while not holds() and (end is None or loop.time() < end):

@@ -1,4 +1,4 @@
-"""The cluster: its nodes, its manager, and what is done to them."""
+"""The cluster: its nodes, its manager, and disturbances of it."""
 
 import asyncio
 import random
@@ -16,9 +16,9 @@ KILLED_NOTICED = 0.1
 
 
 class ClusterSetting(NamedTuple):
-    """What a cluster is like: how many nodes it has, how many shards and replicas an index has by default,
-    how many seconds a slow message between nodes takes on the average, after how many seconds a node is
-    removed that doesn't answer, and how many of a hundred requests are refused."""
+    """The settings of a cluster: the number of nodes, the default numbers of shards and replicas of an index,
+    the average delay of slow messages between nodes in seconds, the seconds until an unresponsive node is
+    removed, and the percentage of rejected requests."""
 
     nodes: int = 1
     shards: int = 1
@@ -49,7 +49,7 @@ class Cluster:
         self._spawn(self._lose(node, KILLED_NOTICED))
 
     async def restart(self, number: int) -> None:
-        """Starts a node again that was killed, with the copies on its disk; returns when it has joined the
+        """Restarts a node that was killed, with the copies on its disk; returns when it has joined the
         cluster."""
         old = self.nodes[number]
         await self.changes.until(lambda: old.is_removed)
@@ -59,27 +59,27 @@ class Cluster:
         await self.manager.join(node)
 
     def pause(self, number: int) -> None:
-        """Stops a node: it does nothing more, and keeps its connections."""
+        """Pauses a node: it does nothing, and keeps its connections."""
         self.nodes[number].is_paused = True
         self._spawn(self._lose(self.nodes[number], self.detection))
 
     def resume(self, number: int) -> None:
-        """Has a node go on that was stopped. If it was removed it joins again, once it has noticed."""
+        """Resumes a paused node. If it was removed, it joins again once it has noticed that."""
         self.nodes[number].is_paused = False
         self._come_back(number)
 
     def cut(self, number: int) -> None:
-        """Cuts a node off from the others, and not from its clients."""
+        """Cuts a node off from the other nodes, but not from its clients."""
         self.nodes[number].is_cut = True
         self._spawn(self._lose(self.nodes[number], self.detection))
 
     def heal(self, number: int) -> None:
-        """Has messages go to and from a node again."""
+        """Reconnects a node to the other nodes."""
         self.nodes[number].is_cut = False
         self._come_back(number)
 
     def _come_back(self, number: int) -> None:
-        """Has a node that was removed join again."""
+        """Has a removed node join again."""
         node = self.nodes[number]
         if node.is_removed:
             node.disconnect()
@@ -87,15 +87,15 @@ class Cluster:
         self.changes.notify()
 
     async def _lose(self, node: Node, seconds: float) -> None:
-        """Has a node removed after these seconds, unless it is reached then. One that is cut off notices that
-        it is alone."""
+        """Removes a node after these seconds, unless it can be reached then. A node that is cut off notices
+        that it is alone."""
         await asyncio.sleep(seconds)
         if not node.is_reachable and not node.is_removed:
             node.is_alone = True
             await self.manager.lose(node)
 
     def _spawn(self, work: Coroutine[Any, Any, None]) -> None:
-        """Does work beside the rest."""
+        """Runs a task in the background."""
         task = asyncio.ensure_future(work)
         self._tasks.add(task)
         task.add_done_callback(self._tasks.discard)

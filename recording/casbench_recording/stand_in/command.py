@@ -1,6 +1,6 @@
-"""The command: its words, and what it serves.
+"""The command line of the stand-in, and its servers.
 
-If OPENSEARCH_USER and OPENSEARCH_PASSWORD are set, or OPENSEARCH_HEADER, whoever asks has to send them.
+If OPENSEARCH_USER and OPENSEARCH_PASSWORD are set, or OPENSEARCH_HEADER, requests need these credentials.
 """
 
 import argparse
@@ -18,19 +18,19 @@ from .second_nodes import CutOffCoordinator, LaggingCoordinator
 from .server import Server, ServerSetting
 
 DISTURBANCES = {
-    "kill": "killed, and started again",
-    "pause": "stopped, and goes on",
-    "cut": "cut off from the others, but not from its clients",
+    "kill": "killed and restarted",
+    "pause": "paused and resumed",
+    "cut": "cut off from the other nodes, but not from its clients",
 }
-"""What may be done to a node."""
+"""The kinds of disturbances of a node."""
 
 
 def parser_of_words() -> argparse.ArgumentParser:
-    """What reads the words of the command."""
+    """Returns the argument parser."""
     faults = "; ".join(f"{name}: {meaning}" for name, meaning in FAULTS.items())
     parser = argparse.ArgumentParser(
         prog=usage_name("stand_in"),
-        description="Stands in for an OpenSearch cluster.",
+        description="A stand-in for an OpenSearch cluster.",
         epilog=f"Faults: {faults}.",
     )
     add = parser.add_argument
@@ -38,32 +38,37 @@ def parser_of_words() -> argparse.ArgumentParser:
         "--port",
         type=int,
         default=9201,
-        help="the port on 127.0.0.1; that of each further node is the next one; 0: free ones (9201)",
+        help="the port of the first node on 127.0.0.1; more nodes use the next ones; 0: free ports (9201)",
     )
-    add("--nodes", type=int, default=1, help="how many nodes there are (1)")
-    add("--shards", type=int, default=1, help="how many shards an index has, unless it says so itself (1)")
+    add("--nodes", type=int, default=1, help="number of nodes (1)")
+    add("--shards", type=int, default=1, help="number of shards of an index, unless its settings say it (1)")
     add(
         "--replicas",
         type=int,
         default=0,
-        help="how many replicas a shard has, unless the index says so itself (0)",
+        help="number of replicas of an index, unless its settings say it (0)",
     )
     add(
         "--lag",
         type=float,
         default=0.02,
-        help="seconds that one in ten messages between nodes takes on the average (0.02)",
+        help="average delay in seconds of one in ten messages between nodes (0.02)",
     )
     for kind, meaning in DISTURBANCES.items():
-        add(f"--{kind}-every", type=float, metavar="S", help=f"every S seconds a node is {meaning}")
-    add("--lasting", type=float, metavar="S", help="how many seconds it is so (half of those between two)")
-    add("--spare", type=int, default=0, metavar="N", help="the first N nodes are never disturbed (0)")
+        add(
+            f"--{kind}-every",
+            type=float,
+            metavar="S",
+            help=f"interval in seconds at which a node is {meaning}",
+        )
+    add("--lasting", type=float, metavar="S", help="seconds that each disturbance lasts (half its interval)")
+    add("--spare", type=int, default=0, metavar="N", help="never disturb the first N nodes (0)")
     add(
         "--detection",
         type=float,
         default=30.0,
         metavar="S",
-        help="after how many seconds a node that doesn't answer is removed (30)",
+        help="seconds after which a node that doesn't answer is removed from the cluster (30)",
     )
     add(
         "--overload",
@@ -72,50 +77,50 @@ def parser_of_words() -> argparse.ArgumentParser:
         const=10.0,
         default=0.0,
         metavar="PERCENT",
-        help="how many of a hundred requests are refused (0; without a number 10)",
+        help="percentage of requests that are rejected (0; 10 if no number is given)",
     )
-    add("--fault", choices=FAULTS, default="none", help="what goes wrong (none)")
-    add("--every", type=int, default=20, help="to each which one of the requests that it could (20)")
-    add("--late", type=float, default=2.0, help="by how many seconds a late answer is late (2)")
-    add("--delay", type=float, default=0.0, help="at most so many seconds before and after each step (0)")
+    add("--fault", choices=FAULTS, default="none", help="the fault to inject (none)")
+    add("--every", type=int, default=20, help="inject the fault into every Nth eligible request (20)")
+    add("--late", type=float, default=2.0, help="delay in seconds for --fault late (2)")
+    add("--delay", type=float, default=0.0, help="maximum delay in seconds before and after each request (0)")
     add(
         "--lagging-node",
         type=int,
         metavar="PORT",
-        help="a second node, whose gets show what documents were before their last changes",
+        help="the port of a second node, whose gets return the version before the last",
     )
     add(
         "--cut-off-node",
         type=int,
         metavar="PORT",
-        help="a second node, which is cut off behind the first changes, --every of them",
+        help="the port of a second node, which is cut off after the first --every changes",
     )
     add(
         "--product",
         help="the value of the header X-Elastic-Product in each answer, which some clients ask for (none)",
     )
-    add("--certificate", help="serves https by this file, which has a certificate and its key")
+    add("--certificate", help="serve HTTPS with this certificate and key (PEM)")
     return parser
 
 
 def parse_arguments(arguments: Optional[Sequence[str]]) -> argparse.Namespace:
-    """Reads the arguments of the command; without any, those of the process."""
+    """Parses the arguments; those of the process if there are none."""
     parser = parser_of_words()
     setting = parser.parse_args(arguments)
     if setting.every < 1:
-        parser.error("--every counts from 1")
+        parser.error("--every is at least 1")
     if setting.nodes < 1 or setting.shards < 1 or setting.replicas < 0:
-        parser.error("there is one node at least, one shard, and no less than no replica")
+        parser.error("--nodes and --shards are at least 1, and --replicas at least 0")
     is_disturbed = any(getattr(setting, f"{kind}_every") for kind in DISTURBANCES)
     if is_disturbed and not 0 <= setting.spare < setting.nodes:
         parser.error("--spare leaves no node to disturb")
     if setting.nodes > 1 and (setting.lagging_node is not None or setting.cut_off_node is not None):
-        parser.error("--lagging-node and --cut-off-node stand beside one node")
+        parser.error("--lagging-node and --cut-off-node need a single node")
     return setting
 
 
 def servers_of(setting: argparse.Namespace, cluster: Cluster) -> List[Server]:
-    """What is served: the nodes, then the second nodes beside a cluster of one."""
+    """Returns the servers: those of the nodes, then those of second nodes beside a single one."""
     how = ServerSetting(setting.delay, setting.late, setting.product, setting.certificate)
     ports = [setting.port + at if setting.port else 0 for at in range(setting.nodes)]
     servers = [Server(cluster, number, how, port) for number, port in enumerate(ports)]
@@ -128,7 +133,7 @@ def servers_of(setting: argparse.Namespace, cluster: Cluster) -> List[Server]:
 
 
 async def serve(setting: argparse.Namespace) -> None:
-    """Serves, and disturbs what is served, until it is stopped."""
+    """Serves, and disturbs the cluster, until it is stopped."""
     counts = setting.nodes, setting.shards, setting.replicas
     wanted = ClusterSetting(*counts, setting.lag, setting.detection, setting.overload)
     cluster = Cluster(wanted, Faults(setting.fault, setting.every))

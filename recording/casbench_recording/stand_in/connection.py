@@ -1,4 +1,4 @@
-"""A client's connection: its requests, answered one after the other."""
+"""The connection of a client, whose requests are answered one after the other."""
 
 import asyncio
 import gzip
@@ -19,11 +19,11 @@ if TYPE_CHECKING:
 PHRASES = {it.value: it.phrase for it in HTTPStatus}
 
 PACKED = re.compile(rb"\r\naccept-encoding:[^\r]*gzip", re.IGNORECASE)
-"""What asks for a packed answer."""
+"""Matches a head that accepts a compressed answer."""
 
 
 class ServerConnection(asyncio.BufferedProtocol):
-    """Answers the requests of one connection."""
+    """Answers the requests of a connection."""
 
     transport: asyncio.Transport
 
@@ -36,8 +36,8 @@ class ServerConnection(asyncio.BufferedProtocol):
         self.is_busy = False
 
     def connection_made(self, transport: asyncio.BaseTransport) -> None:
-        """Keeps what the answers are written to. A connection that was accepted just before the server was
-        stopped is reset as others are: the node that was killed answers nothing."""
+        """Keeps the transport. A connection that was accepted just before the node was killed is reset like
+        the others."""
         self.transport = cast(asyncio.Transport, transport)
         self.server.connections.add(self)
         if not self.server.is_up:
@@ -48,17 +48,17 @@ class ServerConnection(asyncio.BufferedProtocol):
         self.server.connections.discard(self)
 
     def get_buffer(self, sizehint: int) -> memoryview:
-        """Where what comes is put. It is one place for all connections, since it is taken from there at
+        """Returns the buffer for received data. All connections share it, since data is taken from it at
         once."""
         return self.server.buffer
 
     def buffer_updated(self, nbytes: int) -> None:
-        """Takes what came."""
+        """Handles received data."""
         self.data += self.server.buffer[:nbytes]
         self.go_on()
 
     def go_on(self) -> None:
-        """Answers the next request, if it is whole. One that is none ends the connection."""
+        """Answers the next request, if it is complete. An invalid request ends the connection."""
         try:
             if not self.is_busy and not self.transport.is_closing() and self.has_request():
                 self.is_busy = True
@@ -67,7 +67,7 @@ class ServerConnection(asyncio.BufferedProtocol):
             self.transport.close()
 
     def has_request(self) -> bool:
-        """Whether a request is whole; it is read as far as it came."""
+        """Reads the request as far as it was received; returns whether it is complete."""
         if self.body is None:
             self.head, self.data = split_head(self.data)
             if not self.head:
@@ -85,12 +85,12 @@ class ServerConnection(asyncio.BufferedProtocol):
         if self.is_known():
             await self.answer_to(read_request(request, body.content()))
         else:
-            self.send(*error(401, "security_exception", "it is not known who asks"))
+            self.send(*error(401, "security_exception", "the credentials are missing or wrong"))
         self.is_busy, self.body = False, None
         self.go_on()
 
     async def answer_to(self, request: ParsedRequest) -> None:
-        """Answers a request, unless a fault strikes it."""
+        """Answers a request, unless a fault is injected."""
         faults = self.server.faults
         if not request.is_of_documents:
             self.send(*await self.server.act(request))
@@ -110,13 +110,13 @@ class ServerConnection(asyncio.BufferedProtocol):
             self.send(status, body)
 
     async def pass_time(self) -> None:
-        """Waits as long as a step takes, and while the node is stopped."""
+        """Waits for the delay of a step, and while the node is paused."""
         if self.server.setting.delay:
             await asyncio.sleep(random.random() * self.server.setting.delay)
         await self.server.node.awake()
 
     def is_known(self) -> bool:
-        """Whether the request has the header that the environment asks for."""
+        """Returns whether the request has the required credentials."""
         wanted = self.server.wanted
         return wanted is None or re.search(wanted, self.head) is not None
 
@@ -127,7 +127,7 @@ class ServerConnection(asyncio.BufferedProtocol):
         )
 
     def send_bytes(self, status: int, kind: str, body: bytes) -> None:
-        """Sends the bytes of an answer in one piece; packed, if that is asked for."""
+        """Sends an answer in one piece, compressed if the client accepts that."""
         fields = [f"HTTP/1.1 {status} {PHRASES[status]}", f"content-type: {kind}", *self.server.fields]
         if PACKED.search(self.head):
             body = gzip.compress(body, 1)

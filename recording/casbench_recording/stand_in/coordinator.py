@@ -1,5 +1,5 @@
-"""What a node does for a client: it finds the shard of each document, asks copies for it, and has the primary
-write it."""
+"""The coordinating part of a node: it finds the shard of each document, and sends gets to the copies and
+writes to the primary."""
 
 import base64
 import itertools
@@ -19,14 +19,14 @@ if TYPE_CHECKING:
     from .node import Node
 
 SECONDS = {"ms": 0.001, "s": 1.0, "m": 60.0, "h": 3600.0}
-"""How long the units of a time are."""
+"""The units of time values, in seconds."""
 
 IDS = itertools.count()
 
 
 class Unavailable(Exception):
-    """The primary of a shard, or each copy, couldn't be reached in time; whether anything was performed isn't
-    known."""
+    """The primary of a shard, or each copy, couldn't be reached in time; it isn't known whether anything was
+    performed."""
 
     def __init__(self, answer: Answer) -> None:
         super().__init__(answer)
@@ -41,12 +41,12 @@ class Coordinator:
         self._turn = 0
 
     def index(self, name: str) -> Optional[Index]:
-        """The index of this name, or the one with this alias."""
+        """Returns the index with this name or alias."""
         indexes = self.node.state.indexes
         return indexes.get(name) or next((it for it in indexes.values() if name in it.aliases), None)
 
     async def index_to_write(self, name: str) -> Index:
-        """The same of a write that makes an index: it is made if it isn't there."""
+        """The same for a write that creates the index if it doesn't exist."""
         index = self.index(name)
         while index is None:
             await self.node.ask_manager(self.node.cluster.manager.create, name, {})
@@ -62,7 +62,7 @@ class Coordinator:
     async def get_all(
         self, name: str, documents: Sequence[str], parameters: Sequence[RequestParameters]
     ) -> List[Answer]:
-        """Answers gets of documents of an index, of which those of one shard are answered by one copy."""
+        """Answers gets of documents of an index; those of one shard are answered by the same copy."""
         index = self.index(name)
         if index is None:
             return [no_index(name) for _ in documents]
@@ -86,8 +86,8 @@ class Coordinator:
     async def _entries(
         self, shard: ShardId, documents: Sequence[str], preference: Optional[str]
     ) -> List[Optional[Entry]]:
-        """The last changes of documents of a shard, as some copy has them: if one is gone the next is asked.
-        Raises Unavailable."""
+        """Returns the last changes of documents of a shard according to one copy; if it can't be reached the
+        next one is asked. Raises Unavailable."""
         refused = self.node.cluster.overload.of_get()
         if refused is not None:
             raise Unavailable(refused)
@@ -105,8 +105,8 @@ class Coordinator:
         )
 
     def _copies(self, routing: Optional[Routing], preference: Optional[str]) -> List[int]:
-        """The nodes whose copies are asked, in their order: all that are active, by turns, unless the request
-        prefers some."""
+        """Returns the nodes whose copies are asked, in order: all active ones in rotation, unless the request
+        has a preference."""
         if routing is None:
             return []
         self._turn += 1
@@ -132,7 +132,7 @@ class Coordinator:
     async def write(
         self, shard: ShardId, writes: Sequence[Write], parameters: RequestParameters
     ) -> List[Answer]:
-        """Has the primary perform writes, in their order."""
+        """Has the primary perform writes, in order."""
         overload = self.node.cluster.overload
         refused = overload.of_waiting()
         answers = (
@@ -145,7 +145,7 @@ class Coordinator:
     async def _performed(
         self, shard: ShardId, writes: Sequence[Write], parameters: RequestParameters
     ) -> List[Answer]:
-        """The answers to writes by the primary, or that it couldn't be reached."""
+        """Returns the primary's answers to writes, or that it couldn't be reached."""
         try:
             return await self._rerouted(
                 shard, seconds_of(parameters.get("timeout", "1m")), type(self.node).perform, writes
@@ -156,8 +156,8 @@ class Coordinator:
     async def _rerouted(
         self, shard: ShardId, seconds: float, act: Callable[..., Awaitable[Returned]], *arguments: Any
     ) -> Returned:
-        """Has the node with a shard's primary do something: again with each new cluster state if the
-        connection to it was lost, or if it is no primary, and a last time when these seconds are over. Raises
+        """Has the node with the primary of a shard do something. If the connection fails, or it isn't the
+        primary, this is repeated with each new cluster state, and a last time after these seconds. Raises
         Unavailable."""
         node, end = self.node, time.monotonic() + seconds
         while True:
@@ -177,7 +177,7 @@ class Coordinator:
             await node.awake()
 
     def _unavailable(self, shard: ShardId, fault: Exception, seconds: float) -> Answer:
-        """The answer if the primary couldn't be reached in time."""
+        """Returns the answer if the primary couldn't be reached in time."""
         if self.node.is_alone:
             return error(
                 503, "cluster_block_exception", "blocked by: [SERVICE_UNAVAILABLE/2/no cluster-manager];"
@@ -191,8 +191,8 @@ class Coordinator:
         )
 
     async def update(self, shard: ShardId, write: Write) -> Answer:
-        """Answers an update: the primary's node reads the document and writes it, all of which is tried again
-        as a write is."""
+        """Answers an update: the primary's node reads the document and writes it. This is retried like a
+        write."""
         try:
             return await self._rerouted(
                 shard, seconds_of(write.parameters.get("timeout", "1m")), type(self.node).update, write
@@ -201,8 +201,8 @@ class Coordinator:
             return fault.answer
 
     async def write_update(self, shard: ShardId, write: Write, last: Optional[Entry]) -> Answer:
-        """Writes what an update makes of a document, under the pair that was read unless it names one. A
-        conflict is tried again as often as it asks for that."""
+        """Writes the result of an update, on the condition of the pair that was read unless the update has
+        one. After a conflict it is retried as often as `retry_on_conflict` says."""
         change = prepared(write.source or {}, last)
         if change.is_missing:
             return no_document(write.document)
@@ -233,19 +233,19 @@ class Coordinator:
             return no_index(name)
         shard, write = index.shard(document, parameters), Write(kind, document, source, parameters)
         if kind == "update":
-            # (it may be refused where it writes, when it was performed once before)
+            # (it may be rejected by the primary's node, after an attempt that was performed)
             return await self.update(shard, write)
         refused = self.node.cluster.overload.of_coordinating()
         return refused if refused is not None else (await self.write(shard, [write], parameters))[0]
 
 
 def new_id() -> str:
-    """The id of a document that is given none: 20 letters."""
+    """Returns a generated id: 20 characters."""
     return base64.urlsafe_b64encode(next(IDS).to_bytes(15, "big")).decode()
 
 
 def seconds_of(text: str) -> float:
-    """The seconds that a time such as 30s or 1m is."""
+    """Parses a time value such as 30s or 1m."""
     found = re.fullmatch(r"([0-9]+)(ms|s|m|h)", str(text))
     if found is None:
         raise ValueError(f"failed to parse [{text}] as a time")

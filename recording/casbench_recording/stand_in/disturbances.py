@@ -1,23 +1,21 @@
-"""Disturbances of the cluster: again and again a node is killed, stopped or cut off for a while, one at a
-time."""
+"""Disturbances of the cluster: nodes are repeatedly killed, paused or cut off for a while, one at a time."""
 
 import asyncio
 import random
 from typing import Awaitable, Callable, Dict, NamedTuple, Optional, Sequence
 
-from casbench_recording.console import tell
+from casbench_recording.console import report
 
 from .cluster import Cluster
 from .server import Server
 
 ELSEWHERE = 5
-"""Each which one of the disturbances may strike a node without a primary."""
+"""One in how many disturbances may choose a node without a primary."""
 
 
 class Plan(NamedTuple):
-    """When the cluster is disturbed: by the kinds of disturbances after how many seconds the next one begins,
-    how many seconds each lasts, or half of that if it isn't said, and how many of the first nodes are never
-    disturbed."""
+    """The plan of the disturbances: the interval of each kind in seconds, how long each lasts (half its
+    interval by default), and how many of the first nodes are never disturbed."""
 
     every: Dict[str, float]
     lasting: Optional[float]
@@ -25,7 +23,7 @@ class Plan(NamedTuple):
 
 
 class NodeDisturber:
-    """Disturbs the nodes of a cluster, and what they serve."""
+    """Disturbs the nodes of a cluster and their servers."""
 
     def __init__(self, cluster: Cluster, servers: Sequence[Server], plan: Plan, draw: random.Random) -> None:
         self._cluster = cluster
@@ -41,23 +39,23 @@ class NodeDisturber:
         }
 
     async def run(self) -> None:
-        """Disturbs the cluster as it is planned, without end."""
+        """Disturbs the cluster according to the plan, without end."""
         await asyncio.gather(*[self._repeat(kind, seconds) for kind, seconds in self._plan.every.items()])
 
     async def _repeat(self, kind: str, seconds: float) -> None:
-        """Repeats disturbances of a kind."""
+        """Repeats disturbances of one kind."""
         while True:
             await asyncio.sleep(seconds)
             async with self._lock:
                 number = self._chosen()
-                tell(f"{self._cluster.nodes[number].name}: {kind}\n")
+                report(f"{self._cluster.nodes[number].name}: {kind}\n")
                 await self._kinds[kind](
                     number, seconds / 2 if self._plan.lasting is None else self._plan.lasting
                 )
-                tell(f"{self._cluster.nodes[number].name}: over\n")
+                report(f"{self._cluster.nodes[number].name}: over\n")
 
     def _chosen(self) -> int:
-        """The node that is disturbed next: mostly one with a primary."""
+        """Returns the node to disturb next: mostly one with a primary."""
         self._count += 1
         left = list(range(self._plan.spared, len(self._cluster.nodes)))
         routings = self._cluster.manager.state.routings.values()
@@ -65,7 +63,7 @@ class NodeDisturber:
         return self._draw.choice(primaries if primaries and self._count % ELSEWHERE else left)
 
     async def kill(self, number: int, seconds: float) -> None:
-        """Kills a node, and starts it again."""
+        """Kills a node, and restarts it."""
         self._servers[number].stop()
         self._cluster.kill(number)
         await asyncio.sleep(seconds)
@@ -73,13 +71,13 @@ class NodeDisturber:
         await self._servers[number].listen()
 
     async def pause(self, number: int, seconds: float) -> None:
-        """Stops a node, and has it go on."""
+        """Pauses a node, and resumes it."""
         self._cluster.pause(number)
         await asyncio.sleep(seconds)
         self._cluster.resume(number)
 
     async def cut(self, number: int, seconds: float) -> None:
-        """Cuts a node off, and connects it again."""
+        """Cuts a node off, and reconnects it."""
         self._cluster.cut(number)
         await asyncio.sleep(seconds)
         self._cluster.heal(number)

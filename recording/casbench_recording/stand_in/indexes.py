@@ -1,4 +1,4 @@
-"""An index: its shards and settings, and what requests about it are answered with."""
+"""An index: its shards and settings."""
 
 from typing import Any, Dict, Mapping, NamedTuple
 
@@ -6,7 +6,7 @@ from casbench_recording.shard_routing import shard_of
 
 
 class ShardId(NamedTuple):
-    """A shard of an index. An index that is made again under its name has other shards."""
+    """A shard of an index. An index that is created again under the same name has other shards."""
 
     index_name: str
     generation: int
@@ -14,8 +14,7 @@ class ShardId(NamedTuple):
 
 
 class Index:
-    """An index, and the settings that it was made with. Those that were not named are the defaults of the
-    cluster."""
+    """An index with its settings; for others the cluster has defaults."""
 
     def __init__(
         self, name: str, request: Mapping[str, Any], generation: int = 0, shards: int = 1, replicas: int = 0
@@ -34,13 +33,13 @@ class Index:
         self.shards = [ShardId(name, generation, number) for number in range(count)]
 
     def shard_number(self, routing: str) -> int:
-        """The number of the shard that a routing is on."""
+        """Returns the number of the shard of a routing."""
         return shard_of(routing, len(self.shards), self.routing_shards)
 
     def shard(self, document: str, parameters: Mapping[str, Any]) -> ShardId:
-        """The shard that a document is on, or the one that the words name by a routing."""
+        """Returns the shard of a document, or of the routing in the parameters."""
         return self.shards[self.shard_number(str(parameters.get("routing", document)))]
 
     def described(self) -> Dict[str, Any]:
-        """What a request for the index is answered with."""
+        """Returns the answer to a request for the index."""
         return {"aliases": self.aliases, "mappings": self.mappings, "settings": {"index": self.settings}}

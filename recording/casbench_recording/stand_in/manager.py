@@ -1,8 +1,8 @@
 """The cluster manager: which nodes are members, where the copies of each shard are, and which of them is the
 primary.
 
-It stands for a dedicated manager that nobody disturbs. Its state goes to every member, and a change counts as
-made once each member has it.
+It stands for a dedicated manager that is never disturbed. Its state is published to every member, and a
+change is complete when each member has it.
 """
 
 import asyncio
@@ -29,15 +29,15 @@ if TYPE_CHECKING:
     from .node import Node
 
 JOINS_AFTER = 0.05
-"""After how many seconds a node that is there again joins the cluster."""
+"""After how many seconds a node that is back joins the cluster."""
 
 TRIES_AGAIN_AFTER = 0.1
-"""After how many seconds it is tried again to bring a copy in sync."""
+"""The interval in seconds between attempts to recover a copy."""
 
 
 class Routing(NamedTuple):
-    """A shard's primary term, the number of the node that has the primary, if there is one, and those that
-    have active copies."""
+    """The primary term of a shard, the node with the primary (if there is one), and the nodes with active
+    copies."""
 
     term: int
     primary: Optional[int]
@@ -62,21 +62,20 @@ class Manager:
         self.cluster = cluster
         self.state = EMPTY
         self.members = set(range(nodes))
-        # the nodes that are to have a copy of a shard, and those whose copies are in sync, also if these are
-        # gone
+        # the nodes that should have a copy of a shard, and those with copies in sync, even if they are gone
         self.homes: Dict[ShardId, List[int]] = {}
         self.in_sync: Dict[ShardId, FrozenSet[int]] = {}
         self._count = nodes
         self._generation = 0
         self._lock = asyncio.Lock()
         self._tasks: "Set[asyncio.Task[None]]" = set()
-        # the copies that are brought in sync
+        # the copies that are being recovered
         self._recovering: "Set[Tuple[ShardId, int]]" = set()
 
     # Indexes
 
     async def create(self, name: str, request: Mapping[str, Any]) -> bool:
-        """Makes an index, unless there is one of this name; returns whether it did."""
+        """Creates an index, unless it exists; returns whether it did."""
         async with self._lock:
             if name in self.state.indexes:
                 return False
@@ -88,8 +87,8 @@ class Manager:
         return True
 
     def _placed(self, shard: ShardId, replicas: int) -> Routing:
-        """Where the copies of a new shard are: the primary on the last node, or those before it, the replicas
-        on the next ones."""
+        """Places the copies of a new shard: the primary on the last node, or those before it, the replicas on
+        the next ones."""
         homes = [
             (self._count - 1 - shard.number + it) % self._count
             for it in range(min(self._count, replicas + 1))
@@ -102,7 +101,7 @@ class Manager:
         return Routing(1, present[0] if present else None, frozenset(present))
 
     async def remove(self, name: str) -> bool:
-        """Deletes an index, if there is one of this name; returns whether there was."""
+        """Deletes an index, if it exists; returns whether it did."""
         async with self._lock:
             if name not in self.state.indexes:
                 return False
@@ -114,8 +113,8 @@ class Manager:
     # Copies
 
     async def fail_copy(self, shard: ShardId, number: int, term: int, is_current: Callable[[], bool]) -> bool:
-        """Takes a copy out of those in sync for the primary of this term, if it is still a current one; False
-        if the primary is none any longer."""
+        """Removes a copy from those in sync for the primary of this term, if `is_current()`; returns False if
+        that isn't the primary any more."""
         async with self._lock:
             now = self.state.routings.get(shard)
             if now is None or now.primary is None or term < now.term:
@@ -126,8 +125,8 @@ class Manager:
         return True
 
     async def add_copy(self, shard: ShardId, number: int, term: int, is_current: Callable[[], bool]) -> bool:
-        """Adds a copy to those in sync for the primary of this term, which has brought it there, if it is
-        still a current one; whether it did."""
+        """Adds a copy that was recovered by the primary of this term to those in sync, if `is_current()`;
+        returns whether it did."""
         async with self._lock:
             now = self.state.routings.get(shard)
             if (
@@ -142,11 +141,11 @@ class Manager:
         return True
 
     async def give_up_primary(self, shard: ShardId, number: int) -> bool:
-        """Has the node with a shard's primary give it up to another copy in sync, and makes its own copy
-        again; False if it doesn't have the primary, or if there is no other copy.
+        """Moves the primary of a shard from a node to another copy in sync, and recovers the node's copy;
+        returns False if the node doesn't have the primary, or if there is no other copy.
 
-        No node takes it for the primary any longer when the other one becomes it, so that no get is answered
-        by its copy then.
+        When the other copy is promoted, no node regards the old one as the primary any more, so no get is
+        answered by it.
         """
         async with self._lock:
             now = self.state.routings.get(shard)
@@ -160,7 +159,7 @@ class Manager:
         return True
 
     def _bring_in_sync(self, shard: ShardId, number: int) -> None:
-        """Has the primary bring a copy in sync."""
+        """Starts to recover a copy."""
         if (shard, number) not in self._recovering:
             self._recovering.add((shard, number))
             task = asyncio.ensure_future(self._recover(shard, number))
@@ -168,7 +167,7 @@ class Manager:
             task.add_done_callback(self._tasks.discard)
 
     async def _recover(self, shard: ShardId, number: int) -> None:
-        """Has the primary bring a copy in sync, again and again until it is."""
+        """Has the primary recover a copy, until it is in sync."""
         while shard in self.state.routings and number not in self.state.routings[shard].active:
             primary = self.state.routings[shard].primary
             if primary is not None and number in self.members and self.cluster.nodes[primary].is_reachable:
@@ -182,8 +181,7 @@ class Manager:
     # Nodes
 
     async def lose(self, node: "Node") -> None:
-        """Removes a node that is gone: if it had a primary another copy in sync becomes it, under the next
-        term."""
+        """Removes a node. For each primary on it, another copy in sync is promoted in the next term."""
         self.members.discard(node.number)
         node.is_removed = True
         node.disconnect()
@@ -195,7 +193,7 @@ class Manager:
             )
 
     def _without(self, shard: ShardId, number: int) -> Routing:
-        """Where the copies of a shard are without those of a node."""
+        """Returns the routing of a shard without the copies of a node."""
         now = self.state.routings[shard]
         left = now.active - {number}
         if now.primary != number:
@@ -203,7 +201,7 @@ class Manager:
         return Routing(now.term + 1, max(left), left) if left else Routing(now.term, None, left)
 
     async def join(self, node: "Node") -> None:
-        """Takes a node in again. A shard without a primary has it there, if the copy there is in sync."""
+        """Adds a node again. It gets the primary of a shard without one, if its copy is in sync."""
         await asyncio.sleep(JOINS_AFTER)
         async with self._lock:
             if self.cluster.nodes[node.number] is not node or not node.is_reachable:
@@ -222,11 +220,11 @@ class Manager:
     # States
 
     async def _reroute(self, routings: Mapping[ShardId, Routing]) -> None:
-        """Publishes the places of these shards."""
+        """Publishes new routings."""
         await self._publish(self.state.indexes, {**self.state.routings, **routings})
 
     async def _publish(self, indexes: Mapping[str, Index], routings: Mapping[ShardId, Routing]) -> None:
-        """Sends a new state to the members; returns when each has it, or is a member no longer."""
+        """Publishes a new state; returns when each member has it, or is no member any more."""
         self.state = ClusterState(self.state.version + 1, indexes, routings)
         for shard, routing in routings.items():
             if routing.active:
@@ -238,8 +236,8 @@ class Manager:
         await asyncio.gather(*[self._hand_over(self.state, it) for it in sorted(self.members)])
 
     async def _hand_over(self, state: ClusterState, number: int) -> None:
-        """Sends a state to a member; returns when it has that one or a later one, or is a member no
-        longer."""
+        """Sends a state to a member; returns when it has that one or a later one, or is no member any
+        more."""
         cluster = self.cluster
         await asyncio.sleep(cluster.network.delay())
 

@@ -1,5 +1,5 @@
-"""Messages between the nodes: each takes its time, waits while the way is cut or the receiver is paused, or
-is lost with its connection."""
+"""Messages between the nodes: each has a delay, waits while the connection is cut or the receiver is paused,
+or fails with its connection."""
 
 import asyncio
 import random
@@ -11,33 +11,33 @@ if TYPE_CHECKING:
     from .node import Node
 
 SLOW = 0.1
-"""Which part of the messages takes its time."""
+"""The fraction of messages with a delay."""
 
 Returned = TypeVar("Returned")
 
 
 class RequestRefused(Exception):
-    """What a node answers to another one if it doesn't do what it is asked for."""
+    """A node refuses what another one asks for."""
 
 
 class NotPrimary(RequestRefused):
-    """The node has not, or no longer, the primary of the shard."""
+    """The node doesn't have the primary of the shard, or not any more."""
 
 
 class NoCopy(RequestRefused):
-    """The node has no copy of the shard that answers."""
+    """The node has no copy of the shard that can answer."""
 
 
 class OldTerm(RequestRefused):
-    """Who asks was a primary, and another one was promoted since."""
+    """The sender was the primary, and another copy was promoted since."""
 
 
 class Disconnected(Exception):
-    """The connection to a node was lost. What it was asked for may have been done, or not."""
+    """The connection to a node failed. What was asked for may have been done, or not."""
 
 
 class NodeRequest:
-    """A request of one node to another, until it is answered or its connection is lost."""
+    """A request of one node to another, until it is answered or its connection fails."""
 
     def __init__(self, source: "Node", target: "Node") -> None:
         self.source, self.target = source, target
@@ -46,28 +46,28 @@ class NodeRequest:
 
     @property
     def is_over(self) -> bool:
-        """Whether it was answered, or its connection is lost."""
+        """Whether it was answered, or its connection failed."""
         return self.answer.done()
 
     @property
     def is_cut(self) -> bool:
-        """Whether nothing comes through now."""
+        """Whether no message arrives now."""
         return self.source.is_cut or self.target.is_cut
 
     def fail(self) -> None:
-        """Loses the connection."""
+        """Breaks the connection."""
         if not self.is_over:
             self.answer.set_exception(Disconnected(f"the connection to {self.target.name} was lost"))
 
     def end(self) -> None:
-        """Needs nothing more."""
+        """Releases the request."""
         self.answer.cancel()
         self.source.exchanges.pop(self, None)
         self.target.exchanges.pop(self, None)
 
 
 class Network:
-    """Carries the messages. Most take hardly any time, and some `lag` seconds on the average."""
+    """Delivers the messages. Some of them have a delay of `lag` seconds on average."""
 
     def __init__(self, lag: float, draw: random.Random, changes: Changes) -> None:
         self.lag = lag
@@ -76,13 +76,13 @@ class Network:
         self._carrying: "set[asyncio.Task[None]]" = set()
 
     def delay(self) -> float:
-        """How many seconds the next message takes."""
+        """Returns the delay of the next message in seconds."""
         return self._draw.expovariate(1 / self.lag) if self.lag and self._draw.random() < SLOW else 0.0
 
     async def ask(
         self, source: "Node", target: "Node", act: Callable[..., Awaitable[Returned]], *arguments: Any
     ) -> Returned:
-        """Has a node do something for another one; the same node does it at once. Raises Refused, or
+        """Has a node do something for another one, or for itself without a message. Raises RequestRefused, or
         Disconnected."""
         if source is target:
             return await act(target, *arguments)
@@ -100,8 +100,7 @@ class Network:
             exchange.end()
 
     async def _carry(self, exchange: NodeRequest, act: Callable[..., Awaitable[Any]], arguments: Any) -> None:
-        """Carries a request there, and its answer back. Also what nobody waits for any longer arrives, if it
-        had left."""
+        """Delivers a request, and its answer. A request arrives even if nobody waits for it any more."""
         await self._arrive(exchange, exchange.target)
         if not exchange.target.is_alive or exchange.is_cut:
             return
@@ -119,8 +118,8 @@ class Network:
             exchange.answer.set_exception(fault)
 
     async def _arrive(self, exchange: NodeRequest, receiver: "Node") -> None:
-        """Takes the time of a message, and waits until it comes through and its receiver takes it. A
-        connection that is cut may be lost meanwhile."""
+        """Waits for the delay of a message, and until it can be received. Meanwhile a connection that is cut
+        may fail."""
         await asyncio.sleep(self.delay())
         if exchange.is_cut or receiver.is_paused:
             await self._changes.until(

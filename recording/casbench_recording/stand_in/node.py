@@ -1,4 +1,4 @@
-"""A node: its copies of shards, what it knows of the cluster state, and what other nodes ask of it."""
+"""A node: its copies of shards, its cluster state, and what other nodes ask of it."""
 
 import asyncio
 from typing import TYPE_CHECKING, Any, Awaitable, Callable, Dict, List, Optional, Sequence, Set, Tuple
@@ -24,13 +24,13 @@ class Node:
         self.cluster = cluster
         self.number = number
         self.name = f"node-{number + 1}"
-        # its copies, as on its disk; those of them that are brought in sync; and the primaries
+        # its copies, as on its disk; those that are being recovered; and its primaries
         self.copies = copies or {}
         self.recovering: Set[ShardId] = set()
         self.primaries: Dict[ShardId, Primary] = {}
         self.state: ClusterState = EMPTY
-        # whether it runs at all; whether it is stopped; whether no message goes to or from other nodes;
-        # whether the manager has removed it; and whether it has noticed that it has no manager
+        # whether it runs; is paused; is cut off from other nodes; was removed by the manager; and has noticed
+        # that it has no manager
         self.is_alive = True
         self.is_paused = self.is_cut = self.is_removed = self.is_alone = False
         self.exchanges: Dict[NodeRequest, None] = {}
@@ -39,13 +39,13 @@ class Node:
 
     @property
     def is_reachable(self) -> bool:
-        """Whether the manager reaches it."""
+        """Whether the manager can reach it."""
         return self.is_alive and not self.is_paused and not self.is_cut
 
-    # Its work
+    # Tasks
 
     def run(self, work: Awaitable[Returned]) -> "asyncio.Task[Returned]":
-        """Does work, which ends if the node is killed."""
+        """Runs a task, which ends if the node is killed."""
         task = asyncio.ensure_future(work)
         self._tasks.add(task)
         task.add_done_callback(self._tasks.discard)
@@ -54,28 +54,28 @@ class Node:
     def ask(
         self, number: int, act: Callable[..., Awaitable[Returned]], *arguments: Any
     ) -> Awaitable[Returned]:
-        """Has a node do something. Raises Refused or Disconnected."""
+        """Has a node do something. Raises RequestRefused or Disconnected."""
         return self.cluster.network.ask(self, self.cluster.nodes[number], act, *arguments)
 
     async def ask_manager(self, act: Callable[..., Awaitable[Returned]], *arguments: Any) -> Returned:
-        """Has the manager do something, as soon as the node reaches it."""
+        """Has the manager do something, as soon as the node can reach it."""
         await self.cluster.changes.until(lambda: self.is_reachable and not self.is_removed)
         return await act(*arguments)
 
     async def awake(self) -> None:
-        """Waits while the node is stopped."""
+        """Waits while the node is paused."""
         if self.is_paused:
             await self.cluster.changes.until(lambda: not self.is_paused)
 
     def kill(self) -> None:
-        """Ends all that it does, and its connections."""
+        """Ends its tasks and its connections."""
         self.is_alive = False
         for task in list(self._tasks):
             task.cancel()
         self.disconnect()
 
     def disconnect(self) -> None:
-        """Loses the connections with other nodes. A node that is stopped notices that when it goes on."""
+        """Breaks the connections to other nodes. A paused node notices that when it is resumed."""
         for it in list(self.exchanges):
             if not it.source.is_paused:
                 it.fail()
@@ -83,7 +83,7 @@ class Node:
     # The cluster state
 
     def apply(self, state: ClusterState) -> None:
-        """Takes a new cluster state."""
+        """Applies a new cluster state."""
         if state.version <= self.state.version:
             return
         self.state = state
@@ -95,7 +95,7 @@ class Node:
         self.cluster.changes.notify()
 
     def _apply_routing(self, shard: ShardId, routing: Routing) -> None:
-        """Takes the places of the copies of a shard."""
+        """Applies the routing of a shard."""
         primary = self.primaries.get(shard)
         if primary is not None and (routing.primary, routing.term) != (self.number, primary.term):
             primary.step_down()
@@ -111,7 +111,7 @@ class Node:
             self._promote(shard, routing)
 
     def _promote(self, shard: ShardId, routing: Routing) -> None:
-        """Makes the copy at hand the primary."""
+        """Makes its copy the primary."""
         copy, lost = self.copies[shard], self.cluster.faults.lost_at_promotion()
         if routing.term > 1 and lost:
             copy.roll_back(copy.top - lost)
@@ -119,30 +119,30 @@ class Node:
         if not primary.is_ready:
             self.run(primary.resync())
 
-    # What other nodes ask
+    # Requests of other nodes
 
     def primary_of(self, shard: ShardId, term: int) -> Primary:
-        """The primary of this term. Raises NotPrimary."""
+        """Returns the primary of this term. Raises NotPrimary."""
         primary = self.primaries.get(shard)
         if primary is None or primary.term != term:
             raise NotPrimary("actual shard is not a primary")
         return primary
 
     async def perform(self, shard: ShardId, term: int, writes: Sequence[Write]) -> List[Answer]:
-        """Performs writes on the primary at hand."""
+        """Performs writes on its primary."""
         refused = self.cluster.overload.of_primary()
         if refused is not None:
             return [refused for _ in writes]
         return await self.primary_of(shard, term).perform(writes)
 
     async def update(self, shard: ShardId, term: int, write: Write) -> Answer:
-        """Reads a document on the primary at hand, and writes it as the update has it, if it wasn't changed
-        in between."""
+        """Reads a document from its primary, and writes the result of the update, unless the document was
+        changed meanwhile."""
         copy = self.primary_of(shard, term).copy
         return await self.coordinator.write_update(shard, write, copy.last(write.document))
 
     async def get(self, shard: ShardId, documents: Sequence[str]) -> List[Optional[Entry]]:
-        """The last changes of documents, as the copy at hand has them."""
+        """Returns the last changes of documents according to its copy."""
         if shard not in self.copies or shard in self.recovering:
             raise NoCopy(f"{self.name} has no copy of {shard} that answers")
         copy, faults = self.copies[shard], self.cluster.faults
@@ -153,7 +153,7 @@ class Node:
         return found
 
     async def replicate(self, shard: ShardId, message: Replication) -> int:
-        """Takes what the primary sends; returns up to which number the copy has all."""
+        """Applies operations of the primary; returns the number up to which the copy has all."""
         copy = self._copy_at(shard, message.term)
         if message.term > copy.term:
             base = max(message.known, copy.known)
@@ -166,7 +166,7 @@ class Node:
         return copy.checkpoint
 
     async def begin_copy(self, shard: ShardId, attempt: Tuple[int, int]) -> None:
-        """Begins a copy in the place of what is there."""
+        """Starts a new copy in place of the old one."""
         copy = self.copies.get(shard)
         if copy is not None and (copy.term, copy.attempt) >= attempt:
             raise OldTerm(f"{self.name} has a later copy of {shard}")
@@ -174,7 +174,7 @@ class Node:
         self.recovering.add(shard)
 
     async def take_copy(self, shard: ShardId, attempt: Tuple[int, int], contents: Contents) -> int:
-        """Takes all that the primary has; returns up to which number the copy has all."""
+        """Takes the contents of the primary; returns the number up to which the copy has all."""
         copy = self._copy_at(shard, attempt[0])
         if (copy.term, copy.attempt) != attempt:
             raise OldTerm(f"{self.name} has a later copy of {shard}")
@@ -182,7 +182,7 @@ class Node:
         return copy.checkpoint
 
     def _copy_at(self, shard: ShardId, term: int) -> ShardCopy:
-        """The copy of a shard, for a primary of this term. Raises NoCopy or OldTerm."""
+        """Returns the copy of a shard, for a primary of this term. Raises NoCopy or OldTerm."""
         copy = self.copies.get(shard)
         if copy is None:
             raise NoCopy(f"{self.name} has no copy of {shard}")

@@ -1,4 +1,4 @@
-"""What nodes refuse that have too much to do."""
+"""The rejections of overloaded nodes."""
 
 import random
 from typing import Optional
@@ -9,33 +9,33 @@ BYTES = (
     "[coordinating_and_primary_bytes=53687091, replica_bytes=0, all_bytes=53687091, "
     "max_coordinating_and_primary_bytes=53687091]"
 )
-"""How full a node says that it is."""
+"""The memory usage that a node reports."""
 
 STAGES = 4
-"""At how many stages a request may be refused."""
+"""At how many stages a request may be rejected."""
 
 
 class Overload:
-    """Draws what is refused: so many of a hundred requests, a part of them at each stage."""
+    """Rejects a random percentage of the requests, at several stages."""
 
     def __init__(self, percent: float, draw: random.Random) -> None:
         self.percent = percent
         self._draw = draw
 
     def _strikes(self) -> bool:
-        """Whether the request at hand is refused at the stage at hand."""
+        """Returns whether to reject the current request at the current stage."""
         return self.percent > 0 and self._draw.random() * 100 * STAGES < self.percent
 
     def of_coordinating(self) -> Optional[Answer]:
-        """What the coordinating node refuses a write with, at once; None if it doesn't."""
+        """Returns the immediate rejection of a write by the coordinating node, or None."""
         return rejected(f"coordinating operation {BYTES}") if self._strikes() else None
 
     def of_primary(self) -> Optional[Answer]:
-        """What the primary's node refuses it with, each time that it comes there."""
+        """Returns the rejection of a write by the primary's node, or None; it is drawn for each attempt."""
         return rejected(f"primary operation {BYTES}") if self._strikes() else None
 
     def of_get(self) -> Optional[Answer]:
-        """What a get is refused with."""
+        """Returns the rejection of a get, or None."""
         return (
             rejected("org.opensearch.transport.TransportService on OpenSearchThreadPoolExecutor[get]")
             if self._strikes()
@@ -43,10 +43,11 @@ class Overload:
         )
 
     def performs_it(self) -> bool:
-        """Whether a write that a node doesn't wait for is performed."""
+        """Returns whether a write is performed for which a node doesn't wait."""
         return self._draw.random() < 0.5
 
     def of_waiting(self) -> Optional[Answer]:
-        """What a node answers that waits no longer for a write, which may have been performed."""
+        """Returns the answer of a node that stops waiting for a write, which may have been performed; or
+        None."""
         reason = "primary shard is not active Timeout: [1m]"
         return error(503, "unavailable_shards_exception", reason) if self._strikes() else None

@@ -1,5 +1,5 @@
-"""A primary at work: it performs writes on its own copy, sends them to the copies in sync, and answers when
-each has them."""
+"""A primary: it performs writes on its own copy, replicates them to the copies in sync, and answers when each
+has them."""
 
 import asyncio
 import time
@@ -32,7 +32,7 @@ GC_DELETES = 60.0
 
 
 class Write(NamedTuple):
-    """A write that is asked for: an index, a create, a delete, or an update, whose source is the body of the
+    """A requested write: an index, a create, a delete, or an update, whose source is the body of the
     request."""
 
     kind: str
@@ -42,8 +42,8 @@ class Write(NamedTuple):
 
 
 class Replication(NamedTuple):
-    """What a primary sends to a copy: operations, and up to which number each copy in sync has all. With the
-    operations that a new primary begins with comes the number above which there are none."""
+    """What a primary sends to a copy: operations, and the global checkpoint. For the resync of a new primary,
+    also the number above which there are no operations."""
 
     term: int
     known: int
@@ -56,8 +56,8 @@ NO_OPERATION = Entry(-1, 0)
 
 
 class WriteResult(NamedTuple):
-    """What came of a write on the primary: the answer, if it isn't that of a write which was performed; the
-    operation, which is replicated before it is answered; and whether the document was there."""
+    """The result of a write on the primary: the answer, unless the write was performed; the operation, which
+    is replicated before the answer; and whether the document existed."""
 
     answer: Optional[Answer] = None
     entry: Entry = NO_OPERATION
@@ -65,18 +65,18 @@ class WriteResult(NamedTuple):
 
 
 class Target:
-    """Another copy that writes are sent to, as it was made once: made again on the same node it is another
-    one."""
+    """Another copy to which writes are replicated. A copy that is recovered again on the same node is a new
+    target."""
 
     def __init__(self, number: int, held: int = -1, is_in_sync: bool = False) -> None:
-        # the number of its node, that up to which it has all, and whether it is in sync already
+        # the number of its node, the number up to which it has all, and whether it is in sync
         self.number = number
         self.held = held
         self.is_in_sync = is_in_sync
 
 
 class Primary:
-    """The primary of a shard, of one term."""
+    """The primary of a shard, in one term."""
 
     def __init__(self, node: "Node", shard: ShardId, routing: "Routing") -> None:
         self.node, self.shard, self.term = node, shard, routing.term
@@ -84,7 +84,7 @@ class Primary:
         # the other copies, by the numbers of their nodes
         others = sorted(routing.active - {node.number})
         self.targets = {it: Target(it, self.copy.known, True) for it in others}
-        # how often it was begun to make a copy
+        # the number of recoveries so far
         self.attempts = 0
         self.is_over = False
         self.copy.fill_gaps(self.term)
@@ -99,8 +99,8 @@ class Primary:
         return max(self.copy.known, min([self.copy.checkpoint, *held]))
 
     async def resync(self) -> None:
-        """Has the other copies roll back what is above the global checkpoint, and sends them what this one
-        has. Then it takes writes."""
+        """Has the other copies roll back what is above the global checkpoint, and sends them its own
+        operations. After that it accepts writes."""
         known, entries = self.copy.known, self.copy.above(self.copy.known)
         message = Replication(self.term, known, entries, self.copy.top)
         await self._send_all(message)
@@ -108,14 +108,14 @@ class Primary:
         self.node.cluster.changes.notify()
 
     def step_down(self) -> None:
-        """Takes no more writes, and acknowledges none."""
+        """Accepts and acknowledges no more writes."""
         self.is_over = True
         self.node.cluster.changes.notify()
 
     # Writes
 
     async def perform(self, writes: Sequence[Write]) -> List[Answer]:
-        """Performs writes, one after the other, and replicates them together. Raises NotPrimary."""
+        """Performs writes one after the other, and replicates them together. Raises NotPrimary."""
         if not self.is_ready:
             await self.node.cluster.changes.until(lambda: self.is_ready or self.is_over)
         if self.is_over:
@@ -134,14 +134,14 @@ class Primary:
         return [it.answer or performed(self.shard, it.entry, it.was_there, shards) for it in outcomes]
 
     def _shards(self, copies: int) -> Dict[str, int]:
-        """How many copies there are, how many hold what was written, and how many failed meanwhile."""
+        """Returns the `_shards` of an answer: how many copies there are, have the write, and have failed."""
         index = self.node.state.indexes.get(self.shard.index_name)
         total = index.replicas + 1 if index is not None else copies
         holding = sum(it.is_in_sync for it in self.targets.values()) + 1
         return {"total": total, "successful": holding, "failed": max(0, copies - len(self.targets) - 1)}
 
     def _act(self, write: Write) -> WriteResult:
-        """Performs a write on the copy at hand, whatever the others have."""
+        """Performs a write on its own copy."""
         last = self.copy.last(write.document)
         if write.kind == "update":
             write, answer = self._updating(write, last)
@@ -160,7 +160,7 @@ class Primary:
         return WriteResult(None, entry, is_there)
 
     def _updating(self, write: Write, last: Optional[Entry]) -> "tuple[Write, Optional[Answer]]":
-        """The write that an update of this document comes to, or its answer if it comes to none."""
+        """Returns the write that results from an update, or its answer if it changes nothing."""
         change = prepared(write.source or {}, last)
         if change.is_missing:
             return write, no_document(write.document)
@@ -169,7 +169,7 @@ class Primary:
         return write._replace(kind=change.kind, source=change.source), None
 
     def _entry(self, write: Write, last: Optional[Entry]) -> Entry:
-        """The operation that a write is, with its number."""
+        """Returns the operation of a write, with its number."""
         now = time.monotonic()
         is_forgotten = last is not None and last.source is None and now - last.time > GC_DELETES
         changes = 1 if last is None or is_forgotten else last.changes + 1
@@ -184,7 +184,7 @@ class Primary:
         )
 
     def _number(self) -> int:
-        """The number of the next operation."""
+        """Returns the number of the next operation."""
         if self.next and self.node.cluster.faults.strikes("pair-twice"):
             return self.next - 1
         self.next += 1
@@ -193,8 +193,8 @@ class Primary:
     # Copies
 
     async def _send_all(self, message: Replication) -> None:
-        """Sends a message to the other copies; returns when each has what is sent, or counts no longer as one
-        in sync."""
+        """Sends a message to the other copies; returns when each has applied it, or isn't in sync any
+        more."""
         await asyncio.gather(*[self._send(it, message) for it in self.targets.values()])
 
     async def _send(self, target: Target, message: Replication) -> None:
@@ -210,11 +210,11 @@ class Primary:
             target.held = max(target.held, held)
 
     def _is_current(self, target: Target) -> bool:
-        """Whether writes are still sent to a copy."""
+        """Returns whether writes are still replicated to a copy."""
         return self.targets.get(target.number) is target
 
     async def _fail(self, target: Target) -> None:
-        """Has the manager take a copy out of those in sync. Before that nothing is acknowledged without
+        """Has the manager remove a copy from those in sync. Before that, nothing is acknowledged without
         it."""
         if await self._asks_manager(self.node.cluster.manager.fail_copy, target):
             self._forget(target)
@@ -222,24 +222,24 @@ class Primary:
             self.step_down()
 
     def _asks_manager(self, act: Callable[..., Awaitable[bool]], target: Target) -> Awaitable[bool]:
-        """Has the manager do something with a copy, unless that is none of this primary any longer."""
+        """Has the manager do something with a copy, unless it isn't a target any more."""
         return self.node.ask_manager(
             act, self.shard, target.number, self.term, lambda: self._is_current(target)
         )
 
     def _forget(self, target: Target) -> None:
-        """Sends nothing more to a copy."""
+        """Stops replicating to a copy."""
         if self._is_current(target):
             del self.targets[target.number]
 
     def keep(self, active: FrozenSet[int]) -> None:
-        """Forgets the copies that were in sync and are no longer active in the cluster state."""
+        """Forgets the copies in sync that aren't active in the cluster state any more."""
         for it in list(self.targets.values()):
             if it.is_in_sync and it.number not in active:
                 self._forget(it)
 
     async def recover(self, number: int) -> None:
-        """Makes a copy on a node, and brings it in sync. Raises Disconnected or Refused."""
+        """Makes a copy on a node, and brings it in sync. Raises Disconnected or RequestRefused."""
         node = self.node
         if self.is_over or not self.is_ready or number in self.targets:
             return
@@ -257,7 +257,7 @@ class Primary:
 
 
 def is_met(write: Write, last: Optional[Entry]) -> bool:
-    """Whether a write may be performed on a document whose last change is this one."""
+    """Returns whether a write may be performed on a document with this last change."""
     is_there = last is not None and last.source is not None
     condition = pair_of(write.parameters)
     if write.kind == "create" or write.parameters.get("op_type") == "create":

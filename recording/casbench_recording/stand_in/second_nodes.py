@@ -1,5 +1,4 @@
-"""Second nodes beside a cluster of one, whose gets show what documents were. A write is that of the first
-node."""
+"""Second nodes beside a cluster of one node, whose gets return old versions. Writes go to the first node."""
 
 from typing import List, Optional, Sequence
 
@@ -11,7 +10,7 @@ from .shard_copy import Entry
 
 
 class LaggingCoordinator(Coordinator):
-    """A node that lags: its gets show what a document was before its last change."""
+    """A lagging node: its gets return the version before the last."""
 
     async def _entries(
         self, shard: ShardId, documents: Sequence[str], preference: Optional[str]
@@ -20,8 +19,8 @@ class LaggingCoordinator(Coordinator):
 
 
 class CutOffCoordinator(Coordinator):
-    """A node that is cut off behind the first changes of a shard: its gets show what was there then, and it
-    takes no more writes."""
+    """A node that is cut off after the first changes of a shard: its gets return the versions of that time,
+    and it accepts no more writes."""
 
     async def _entries(
         self, shard: ShardId, documents: Sequence[str], preference: Optional[str]

@@ -1,4 +1,4 @@
-"""What a node serves to clients, and its address."""
+"""The HTTP server of a node."""
 
 import asyncio
 import base64
@@ -19,13 +19,12 @@ from .node import Node
 from .parsed_request import ParsedRequest
 
 BACKLOG = 256
-"""How many connections may wait."""
+"""The maximum number of pending connections."""
 
 
 class ServerSetting(NamedTuple):
-    """How requests are answered: how many seconds at most pass before and after each step, how late an answer
-    is that is late, the product that answers name, and the file of the certificate for https, if there is
-    one."""
+    """How requests are answered: the maximum delay before and after each request in seconds, the delay of
+    --fault late, the value of X-Elastic-Product, and the file of the TLS certificate, if there is one."""
 
     delay: float = 0.0
     late: float = 2.0
@@ -34,7 +33,7 @@ class ServerSetting(NamedTuple):
 
 
 class Server:
-    """Serves a node. With a coordinator of its own it serves a second node beside it."""
+    """The server of a node, or of a second node beside it if it has its own coordinator."""
 
     def __init__(
         self,
@@ -50,11 +49,10 @@ class Server:
         self.faults: Faults = cluster.faults
         self.wanted = wanted_header(os.environ)
         self.connections: Set[ServerConnection] = set()
-        # (a view, since asyncio writes encrypted messages into slices of it, and those of the bytes
-        # themselves are copies)
+        # (a memoryview: asyncio receives into slices of it, and slices of a bytearray would be copies)
         self.buffer = memoryview(bytearray(65_536))
         self.fields = [f"X-Elastic-Product: {setting.product}"] if setting.product else []
-        # whether connections are taken
+        # whether it accepts connections
         self.is_up = False
         self._port = port
         self._second = second
@@ -67,20 +65,20 @@ class Server:
 
     @property
     def node(self) -> Node:
-        """The node as it runs now."""
+        """The node that currently runs."""
         return self.cluster.nodes[self.number]
 
     async def act(self, request: ParsedRequest) -> Answer:
-        """Does what is asked for, and returns the answer."""
+        """Performs a request, and returns the answer."""
         coordinator = self._second or self.node.coordinator
         if request.path == [""] and self.setting.product:
             return await greet_as_elasticsearch(coordinator, request)
         return await answer_to(coordinator, request)
 
     async def listen(self) -> None:
-        """Listens, at the first time as well as after the node was started again."""
+        """Starts to listen, also after the node was restarted."""
         if self._place is None:
-            # (the port stays taken while nobody listens, and clients are refused)
+            # (this keeps the port while the node is down, and clients are refused)
             self._place = bound(self._port)
             self._port = self._place.getsockname()[1]
         self.is_up = True
@@ -89,8 +87,8 @@ class Server:
         )
 
     def connection(self) -> ServerConnection:
-        """What answers a connection that was accepted. If the server was stopped meanwhile that is closed as
-        the fault is raised."""
+        """Returns the protocol of an accepted connection. If the server was stopped meanwhile, it raises,
+        which closes the connection."""
         if not self.is_up:
             raise ConnectionAbortedError
         return ServerConnection(self)
@@ -101,7 +99,7 @@ class Server:
         print(f"{scheme}://127.0.0.1:{self._port}", file=sys.stderr, flush=True)
 
     def stop(self) -> None:
-        """Listens no more, and resets its connections."""
+        """Stops to listen, and resets its connections."""
         self.is_up = False
         if self._listener is not None:
             self._listener.close()
@@ -110,7 +108,7 @@ class Server:
 
 
 def bound(port: int) -> socket.socket:
-    """A socket at this port of the loopback, or at one that is free."""
+    """Returns a socket bound to this port of the loopback, or to a free one."""
     place = socket.socket()
     place.setsockopt(socket.SOL_SOCKET, socket.SO_REUSEADDR, 1)
     place.bind(("127.0.0.1", port))
@@ -118,7 +116,7 @@ def bound(port: int) -> socket.socket:
 
 
 def wanted_header(environment: Mapping[str, str]) -> Optional[bytes]:
-    """The pattern of the header that a request has to have; None if none is asked for."""
+    """Returns the pattern of the required header; None if none is required."""
     if "OPENSEARCH_USER" in environment:
         parameters = f"{environment['OPENSEARCH_USER']}:{environment.get('OPENSEARCH_PASSWORD', '')}"
         name, value = "Authorization", "Basic " + base64.b64encode(parameters.encode()).decode()

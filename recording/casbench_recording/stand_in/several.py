@@ -1,4 +1,4 @@
-"""Requests on several documents: bulk requests, gets of several, and changes of all documents of an index."""
+"""Requests on several documents: bulk requests, multi-gets, and changes of all documents of an index."""
 
 import asyncio
 import json
@@ -10,19 +10,19 @@ from .indexes import ShardId
 from .primary import Write
 
 KINDS = ("index", "create", "update", "delete")
-"""What an item of a bulk request may do."""
+"""The actions of a bulk request's item."""
 
 
 class BulkWrite(NamedTuple):
-    """An item of a bulk request: the index that it names, and the write."""
+    """An item of a bulk request: its index and its write."""
 
     index_name: str
     write: Write
 
 
 def items_of(name: str, text: str) -> List[BulkWrite]:
-    """The items of a bulk request to an index, if its path names one. Raises ValueError if it can't be
-    read."""
+    """Returns the items of a bulk request; `name` is the index in the path, if any. Raises ValueError if it
+    is invalid."""
     lines = iter([json.loads(it) for it in text.split("\n") if it.strip()])
     items = []
     for action in lines:
@@ -42,7 +42,7 @@ def items_of(name: str, text: str) -> List[BulkWrite]:
 
 
 async def bulk(coordinator: Coordinator, name: str, text: str, parameters: RequestParameters) -> Answer:
-    """Answers a bulk request: the items of each shard go to its primary together."""
+    """Answers a bulk request: the items of each shard are sent to its primary together."""
     items = items_of(name, text)
     refused = coordinator.node.cluster.overload.of_coordinating()
     if refused is not None:
@@ -73,12 +73,12 @@ async def bulk(coordinator: Coordinator, name: str, text: str, parameters: Reque
 
 
 async def together(work: List[Any]) -> List[Any]:
-    """What works return that are done beside each other."""
+    """Returns the results of tasks that run concurrently."""
     return [await work[0]] if len(work) == 1 else [*await asyncio.gather(*work)]
 
 
 def item_answer(item: BulkWrite, status: int, body: Dict[str, Any]) -> Dict[str, Any]:
-    """What the answer to a bulk request has of an item."""
+    """Returns an item of the answer to a bulk request."""
     if "error" in body:
         cause = {key: it for key, it in body["error"].items() if key != "root_cause"}
         body = {"_index": item.index_name, "error": cause}
@@ -88,7 +88,7 @@ def item_answer(item: BulkWrite, status: int, body: Dict[str, Any]) -> Dict[str,
 async def multiple_get(
     coordinator: Coordinator, name: str, request: Dict[str, Any], parameters: RequestParameters
 ) -> Answer:
-    """Answers a get of several documents, of one index after the other."""
+    """Answers a multi-get, one index after the other."""
     places = request.get("docs") or [{"_id": it} for it in request["ids"]]
     names = [it.get("_index", name) for it in places]
     found: Dict[int, Any] = {}
@@ -104,12 +104,12 @@ async def multiple_get(
 
 
 def place_answer(index: str, document: str, body: Dict[str, Any]) -> Dict[str, Any]:
-    """What the answer to a get of several has of a document."""
+    """Returns a document of the answer to a multi-get."""
     return {"_index": index, "_id": document, "error": body["error"]} if "error" in body else body
 
 
 async def change_all(coordinator: Coordinator, name: str, kind: str) -> Answer:
-    """Answers a change of every document of an index: each is deleted, or written again."""
+    """Answers a change of all documents of an index: each is deleted, or written again."""
     index = coordinator.index(name)
     node = coordinator.node
     for shard in index.shards if index else ():

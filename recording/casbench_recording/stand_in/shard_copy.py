@@ -1,4 +1,4 @@
-"""A copy of a shard: its numbered operations, and what they make of the documents."""
+"""A copy of a shard: its numbered operations, and the resulting documents."""
 
 from typing import Any, Dict, List, NamedTuple, Optional, Tuple
 
@@ -7,17 +7,17 @@ KEPT = 1000
 
 
 class Entry(NamedTuple):
-    """An operation by its number, and what it makes of its document. One that only fills a gap in the numbers
-    (a no-op) has no document."""
+    """An operation by its number, and the resulting document. One that only fills a gap in the numbers (a
+    no-op) has no document."""
 
     number: int
     term: int
     document: Optional[str] = None
-    # how often the document was changed, which is its `_version`
+    # the number of changes of the document, its `_version`
     changes: int = 0
     # None if the document was deleted
     source: Optional[Dict[str, Any]] = None
-    # when it was performed, in seconds of a clock that only goes forward
+    # when it was performed, by the monotonic clock
     time: float = 0.0
 
     @property
@@ -27,7 +27,7 @@ class Entry(NamedTuple):
 
 
 class Contents(NamedTuple):
-    """All that a copy has: its operations, and the number up to which it has all."""
+    """The contents of a copy: its operations, and the number up to which it has all."""
 
     entries: List[Entry]
     checkpoint: int
@@ -38,21 +38,21 @@ class ShardCopy:
 
     def __init__(self, term: int = 1, attempt: int = 0) -> None:
         self.term = term
-        # the attempt of the primary of this term by which the copy is made, if it is made from another one
+        # the number of the recovery in this term that made the copy, if any
         self.attempt = attempt
-        # by their numbers, the last KEPT at least
+        # by their numbers, at least the last KEPT
         self.entries: Dict[int, Entry] = {}
-        # of each document, in the order of their numbers: those that may be rolled back, and two before these
+        # for each document, in order: the versions that may be rolled back, and two before them
         self.versions: Dict[str, List[Entry]] = {}
-        # the greatest number; the one up to which it has all; and the one up to which each copy in sync has
-        # all, as far as is known
+        # the greatest number; the number up to which it has all; and the global checkpoint, as far as it is
+        # known
         self.top = self.checkpoint = self.known = -1
-        # what the documents were behind the first operations, if that was noted
+        # the documents after the first operations, if they were noted
         self.beginning: Optional[Dict[str, Entry]] = None
         self._forgotten = -1
 
     def put(self, entry: Entry) -> None:
-        """Takes an operation."""
+        """Adds an operation."""
         if self.entries.get(entry.number) == entry:
             return
         self.entries[entry.number] = entry
@@ -63,7 +63,8 @@ class ShardCopy:
             self._put_version(self.versions.setdefault(entry.document, []), entry)
 
     def _put_version(self, versions: List[Entry], entry: Entry) -> None:
-        """Puts what an operation makes of its document in its place, and drops what nobody can ask for."""
+        """Adds the resulting document of an operation in order, and drops versions that aren't needed any
+        more."""
         at = len(versions)
         while at and versions[at - 1].number > entry.number:
             at -= 1
@@ -73,7 +74,7 @@ class ShardCopy:
             del versions[0]
 
     def note_known(self, known: int) -> None:
-        """Notes up to which number each copy in sync has all, and forgets operations that nobody needs."""
+        """Notes the global checkpoint, and forgets operations that aren't needed any more."""
         self.known = max(self.known, min(known, self.checkpoint))
         bound = min(self.known, self.top - KEPT)
         while self._forgotten < bound:
@@ -81,25 +82,25 @@ class ShardCopy:
             self.entries.pop(self._forgotten, None)
 
     def note_beginning(self) -> None:
-        """Notes what the documents are now. One of which each change was rolled back has no version."""
+        """Notes the current documents. A document of which all changes were rolled back has no version."""
         self.beginning = {document: versions[-1] for document, versions in self.versions.items() if versions}
 
     def last(self, document: str) -> Optional[Entry]:
-        """The document's last change."""
+        """Returns the last change of a document."""
         versions = self.versions.get(document)
         return versions[-1] if versions else None
 
     def before(self, document: str) -> Optional[Entry]:
-        """The change before the document's last one."""
+        """Returns the change before the last one of a document."""
         versions = self.versions.get(document, [])
         return versions[-2] if len(versions) > 1 else None
 
     def above(self, number: int) -> List[Entry]:
-        """The operations above a number."""
+        """Returns the operations above a number."""
         return [self.entries[it] for it in range(number + 1, self.top + 1) if it in self.entries]
 
     def roll_back(self, number: int) -> None:
-        """Forgets what is above a number."""
+        """Forgets the operations above a number."""
         for entry in self.above(number):
             del self.entries[entry.number]
             if entry.document is not None:
@@ -109,19 +110,19 @@ class ShardCopy:
         self.known = min(self.known, number)
 
     def fill_gaps(self, term: int) -> None:
-        """Fills each gap in the numbers by a no-op."""
+        """Fills each gap in the numbers with a no-op."""
         for number in range(self.checkpoint + 1, self.top):
             if number not in self.entries:
                 self.put(Entry(number, term))
 
     def contents(self) -> Contents:
-        """All that it has, for a copy that is made from it."""
+        """Returns its contents, for a new copy."""
         entries = {id(it): it for versions in self.versions.values() for it in versions}
         entries.update((id(it), it) for it in self.entries.values())
         return Contents(sorted(entries.values(), key=lambda it: it.number), self.checkpoint)
 
     def take(self, contents: Contents) -> None:
-        """Takes all that another copy has."""
+        """Takes the contents of another copy."""
         self.checkpoint = max(self.checkpoint, contents.checkpoint)
         for it in contents.entries:
             self.put(it)

@@ -1,4 +1,4 @@
-"""What an update comes to: a write of the document as it is changed, by a part of it or by a script."""
+"""The result of an update: a write of the changed document, by a partial document or a script."""
 
 from typing import Any, Dict, Mapping, NamedTuple, Optional
 
@@ -6,8 +6,8 @@ from .shard_copy import Entry
 
 
 class Change(NamedTuple):
-    """What an update comes to: a write of this kind and source, or nothing, since the document is so already
-    or is missing."""
+    """The result of an update: a write of this kind and source, or nothing, because the document is unchanged
+    or missing."""
 
     kind: str = "index"
     source: Optional[Dict[str, Any]] = None
@@ -16,8 +16,8 @@ class Change(NamedTuple):
 
 
 def prepared(body: Mapping[str, Any], last: Optional[Entry]) -> Change:
-    """What the update comes to that this body asks for, of a document whose last change is this one. There is
-    one script, which deletes."""
+    """Returns the result of an update with this body, for a document with this last change. The only script
+    is `delete`."""
     if last is None or last.source is None:
         first = body.get("upsert", body.get("doc") if body.get("doc_as_upsert") else None)
         return Change("create", first) if first is not None else Change(is_missing=True)
@@ -28,7 +28,7 @@ def prepared(body: Mapping[str, Any], last: Optional[Entry]) -> Change:
 
 
 def merged(source: Mapping[str, Any], change: Mapping[str, Any]) -> Dict[str, Any]:
-    """A source with the members of a change, and objects in it with those of the objects there."""
+    """Returns a source merged with the members of a change, recursively."""
     both = {
         key: merged(source[key], it)
         for key, it in change.items()

@@ -1,13 +1,13 @@
-"""Checks a recording while it grows, and runs a command at the first fault that is proved.
+"""Checks a recording while it grows, and runs a command at the first proved fault.
 
     python3 -m casbench_recording.watch carts.ndjson --profile opensearch -- docker pause node-1 node-2 node-3
 
-It takes the options of a reading, as a check does, and rules documents out. OUT is a history, or a directory
-of histories. `refuted` is final: what refutes the lines so far refutes every history that begins with them.
-`yes` and `no` are not: docs/RECORDING.md says why. At the first `refuted` it prints what `explain` says, runs
-COMMAND, and exits with status 1. Ctrl-C ends it after a last check. The exit status is then that of the worst
-answer: 0 for `yes`, 1 for `no`, 2 if a text is no history or there is none. If a check gives no verdict, or
-lines that were checked are gone, it exits at once with status 4.
+It takes the options of a reading, as a check does, and always checks with --rule-out. OUT is a history, or a
+directory of histories. `refuted` is final: what refutes the first lines refutes every continuation. `yes` and
+`no` aren't: docs/RECORDING.md says why. At the first `refuted` it prints the output of `explain`, runs
+COMMAND, and exits with status 1. Ctrl-C ends it after a last check. Then the exit status is that of the worst
+answer: 0 for `yes`, 1 for `no`, 2 if a text isn't a history or there is none. If a check gives no verdict, or
+checked lines are gone, it exits at once with status 4.
 """
 
 import argparse
@@ -34,19 +34,19 @@ from .snapshots import CheckError, ProgramAnswer, Snapshot, try_check
 from .terms import TermReader, Terms
 
 REST = 9.0
-"""How many times as long as the last check took of a processor the next one waits, so that they take a tenth
-of one at most."""
+"""After a check the watch sleeps nine times the check's CPU time, so that checks take about a tenth of a
+processor."""
 
 PART = re.compile(r"part-[0-9]+\.ndjson")
-"""The name of a finished part of a recording without end."""
+"""Matches the name of a finished part of a recording."""
 
 
 class WatchStop:
-    """Ctrl-C, a request to end, or the end of standard input: the next round is the last one. A second signal
+    """A request to end after the next round: Ctrl-C, SIGTERM, or the end of standard input. A second signal
     ends at once.
 
-    If standard input is heeded its end is the only request: SIGTERM ends the watch at once then, without an
-    answer.
+    With --until-closed only the end of standard input is such a request: SIGTERM ends the watch at once,
+    without an answer.
     """
 
     def __init__(self, ends_with_input: bool) -> None:
@@ -54,19 +54,19 @@ class WatchStop:
         self._wake, self._woken = os.pipe()
         self._sources = [self._wake, *([sys.stdin.fileno()] if ends_with_input else [])]
         for kind in (signal.SIGINT, *([] if ends_with_input else [signal.SIGTERM])):
-            # (the background jobs of a shell ignore Ctrl-C)
+            # (background jobs of a shell ignore Ctrl-C)
             if signal.getsignal(kind) is not signal.SIG_IGN:
                 signal.signal(kind, self._ask)
 
     def _ask(self, *_: object) -> None:
-        """Takes a signal."""
+        """Handles a signal."""
         if self.is_set:
             raise KeyboardInterrupt
         self.is_set = True
         os.write(self._woken, b"x")
 
     def wait_until(self, moment: float) -> None:
-        """Waits until a moment of the monotonic clock, or until it is set."""
+        """Waits until this time of the monotonic clock, or until the request."""
         while not self.is_set and time.monotonic() < moment:
             ready, _, _ = select.select(self._sources, [], [], max(0.0, moment - time.monotonic()))
             if any(it != self._wake and not os.read(it, 4096) for it in ready):
@@ -75,35 +75,34 @@ class WatchStop:
 
 @dataclass
 class Watched:
-    """A history that is watched: what reads its terms, how many bytes of it were checked last, the answer,
-    whether that was printed as the one of a finished part, whether it was finished then, so that it may be
-    deleted, and whether it is deleted.
-    """
+    """A watched history: the reader of its terms, the length that was checked last, the answer, whether that
+    was printed for the finished part, whether the part was finished then and so may be deleted, and whether
+    it is deleted."""
 
     terms: TermReader
     length: int = 0
     answer: Optional[ProgramAnswer] = None
-    is_told: bool = False
+    is_reported: bool = False
     is_finished: bool = False
     is_deleted: bool = False
 
 
 class Watch:
-    """The histories of a recording, by their names without the suffix of a part that grows."""
+    """The histories of a recording, by their names without the suffix of an unfinished part."""
 
     def __init__(self, setting: argparse.Namespace, stop: WatchStop) -> None:
         self.setting = setting
         self.stop = stop
         self.histories: Dict[str, Watched] = {}
-        # by the name of a history, those of all parts together
+        # by the name of a history; all parts share one
         self.terms: Dict[str, Terms] = {}
         self._program = setting.program or program_at_hand()
         self._options = options_of(reading_of(setting))
-        # (no check begins before this moment)
+        # the earliest time of the next check
         self._rests_until = 0.0
 
     def run(self) -> int:
-        """Checks until the end is asked for, or a history is refuted; returns the exit status. Raises
+        """Checks until it is asked to end, or a history is refuted; returns the exit status. Raises
         CheckError if it can't check."""
         try_check([self._program, "check", *self._options])
         while True:
@@ -111,16 +110,16 @@ class Watch:
             for path in self.paths():
                 refuted = self.check(path, is_last)
                 if refuted is not None:
-                    return self.tell_refuted(*refuted)
+                    return self.report_refuted(*refuted)
                 if self.stop.is_set and not is_last:
                     break
             self.refuse_losses()
             if is_last:
-                return self.tell_end()
+                return self.report_end()
             self.stop.wait_until(began + self.setting.every)
 
     def paths(self) -> List[str]:
-        """The files of the recording, in the order of their names."""
+        """Returns the files of the recording, ordered by name."""
         out = self.setting.out
         if not os.path.isdir(out):
             return [out] if os.path.exists(out) else []
@@ -129,8 +128,8 @@ class Watch:
         )
 
     def refuse_losses(self) -> None:
-        """Raises CheckError if lines that were checked are gone. A finished part may be deleted, once it was
-        checked as one."""
+        """Raises CheckError if checked lines are gone. A finished part may be deleted once it was checked as
+        finished."""
         checked = {name: it for name, it in self.histories.items() if it.length}
         lost = [name for name, it in checked.items() if not it.is_finished and not is_there(name)]
         if checked and not is_there(name_of(self.setting.out)):
@@ -139,10 +138,10 @@ class Watch:
             raise CheckError(f"{lost[0]} was removed while it was watched")
 
     def check(self, path: str, is_last: bool) -> Optional[Tuple[Snapshot, str]]:
-        """Checks a file if it has grown; returns the lines that were checked if they are refuted, and the
-        line of that verdict."""
+        """Checks a file if it has grown; if it is refuted, returns the checked lines and the line of the
+        verdict."""
         watched = self.watched(name_of(path))
-        # (a part that is finished meanwhile has another name, and has its turn in the next round)
+        # (a part that is finished meanwhile has a new name, and is checked in the next round)
         with contextlib.suppress(FileNotFoundError):
             snapshot = Snapshot(path)
             if snapshot.length < watched.length:
@@ -153,7 +152,7 @@ class Watch:
                 watched.answer = snapshot.check([self._program, "check", *self._options])
                 watched.length = snapshot.length
                 self.rest_for(watched.answer.seconds)
-                self.tell_check(path, watched.answer)
+                self.report_check(path, watched.answer)
             if watched.answer is not None and watched.answer.word != "refused":
                 before = time.process_time()
                 watched.terms.read(snapshot.lines_from(watched.terms.length))
@@ -161,23 +160,23 @@ class Watch:
                 if watched.answer.word == "refuted":
                     return snapshot, watched.answer.line
             watched.is_finished = is_finished(path)
-            self.tell_finished(path, watched)
+            self.report_finished(path, watched)
             self.delete_if_done(path, watched)
         return None
 
     def rest_for(self, seconds: float) -> None:
-        """Has the next check wait, after what took so many seconds of a processor."""
+        """Delays the next check, after a check that took this CPU time in seconds."""
         self._rests_until = max(self._rests_until, time.monotonic()) + REST * seconds
 
     def watched(self, name: str) -> Watched:
-        """The history of this name, which is watched from now on."""
+        """Returns the history of this name; starts to watch it if it is new."""
         if name not in self.histories:
             of = self.setting.out if PART.fullmatch(os.path.basename(name)) else name
             self.histories[name] = Watched(TermReader(self.terms.setdefault(of, Terms())))
         return self.histories[name]
 
     def delete_if_done(self, path: str, watched: Watched) -> None:
-        """Deletes a finished part that got `yes`, if that is asked for."""
+        """Deletes a finished part whose answer is `yes`, if --delete-parts is given."""
         if (
             self.setting.delete_parts
             and is_finished(path)
@@ -187,58 +186,58 @@ class Watch:
             os.remove(path)
             watched.is_deleted = True
 
-    # What is printed
+    # Output
 
-    def tell_check(self, path: str, answer: ProgramAnswer) -> None:
-        """Prints a line on a check, on a terminal."""
+    def report_check(self, path: str, answer: ProgramAnswer) -> None:
+        """Prints a line for a check, on a terminal."""
         if sys.stdout.isatty():
             name = "" if path == self.setting.out else f"{escaped(os.path.basename(path))}  "
-            # (a recorder may have a line on its progress there, which it writes again)
+            # (this replaces the recorder's line of progress, which it writes again)
             print(
                 f"\r\x1b[K{time.strftime('%H:%M:%S')}  {name}{answer.line}  ({answer.seconds:.2f} s)",
                 flush=True,
             )
 
-    def tell_finished(self, path: str, watched: Watched) -> None:
-        """Prints a line on a finished part, once, if there is no terminal."""
+    def report_finished(self, path: str, watched: Watched) -> None:
+        """Prints a line for a finished part, once, unless the output is a terminal."""
         if (
             is_finished(path)
             and watched.answer is not None
-            and not watched.is_told
+            and not watched.is_reported
             and not sys.stdout.isatty()
         ):
-            watched.is_told = True
+            watched.is_reported = True
             print(f"{escaped(os.path.basename(path))}: {watched.answer.line}", flush=True)
 
-    def tell_refuted(self, snapshot: Snapshot, line: str) -> int:
-        """Prints what `explain` says, or else the line of the verdict; runs the command, and returns the exit
-        status.
+    def report_refuted(self, snapshot: Snapshot, line: str) -> int:
+        """Prints the output of `explain`, or else the line of the verdict; runs the command, and returns the
+        exit status.
 
         The verdict stands, whatever else fails.
         """
         try:
             explained = snapshot.ask([self._program, "explain", *self._options]).text
         except (CheckError, OSError) as fault:
-            tell_fault(str(fault))
+            report_fault(str(fault))
             explained = ""
         try:
             if len(self.histories) > 1 or snapshot.path != self.setting.out:
                 print(f"{escaped(snapshot.path)}:")
             print(explained if explained.startswith(f"{line}\n") else f"{line}\n", end="", flush=True)
-            self.tell_beside()
+            self.report_hints()
         except OSError as fault:
-            # (nobody reads it any more)
-            tell_fault(str(fault))
+            # (the reader is gone)
+            report_fault(str(fault))
             os.dup2(os.open(os.devnull, os.O_WRONLY), sys.stdout.fileno())
         if self.setting.command:
             run_command(self.setting.command)
         return 1
 
-    def tell_end(self) -> int:
+    def report_end(self) -> int:
         """Prints the last answers, and returns the exit status."""
         answers = [it.answer for it in self.histories.values() if it.answer is not None]
         if not answers:
-            tell_fault(f"there is nothing to check in {escaped(self.setting.out)}")
+            report_fault(f"there is nothing to check in {escaped(self.setting.out)}")
             return 2
         if os.path.isdir(self.setting.out):
             counts = ", ".join(
@@ -249,43 +248,43 @@ class Watch:
         for answer in answers:
             if not os.path.isdir(self.setting.out) or answer.word != "yes":
                 print(answer.line)
-        self.tell_beside()
+        self.report_hints()
         return max(it.status for it in answers)
 
-    def tell_beside(self) -> None:
+    def report_hints(self) -> None:
         """Prints what the answers don't say: which acknowledged writes may be lost, and what isn't judged."""
         for terms in self.terms.values():
             for it in terms.hints():
                 print(f"hint: {it}: it may be lost, though no reply shows that", flush=True)
-        tell_unjudged(self.setting.out)
+        report_unjudged(self.setting.out)
 
 
-def tell_fault(text: str) -> None:
-    """Writes a line on standard error."""
+def report_fault(text: str) -> None:
+    """Writes a line to standard error."""
     print(f"casbench_recording.watch: {text}", file=sys.stderr)
 
 
 def name_of(path: str) -> str:
-    """The path of a history, without the suffix of a part that grows."""
+    """Returns the path of a history, without the suffix of an unfinished part."""
     return path[: -len(GROWING)] if path.endswith(GROWING) else path
 
 
 def is_there(name: str) -> bool:
-    """Whether a history is there, growing or finished. (One that is finished between the two looks is found
-    by the second.)"""
+    """Returns whether a history exists, finished or not. (If it is finished between the two tests, the second
+    one finds it.)"""
     return os.path.exists(name + GROWING) or os.path.exists(name)
 
 
 def is_finished(path: str) -> bool:
-    """Whether a file is a finished part of a recording without end."""
+    """Returns whether a file is a finished part of a recording."""
     return PART.fullmatch(os.path.basename(path)) is not None
 
 
-def tell_unjudged(out: str) -> None:
-    """Prints how much isn't judged, by the list beside a proxy's recording, and why it ended early, if it
-    did.
+def report_unjudged(out: str) -> None:
+    """Prints how much isn't judged, from the list beside a proxy's recording, and why the recording ended
+    early.
 
-    The end of the list says how many calls were left out, so only that of a recording that is over does.
+    The number of calls is at the end of the list, so it is known only for a recording that is over.
     """
     with contextlib.suppress(FileNotFoundError), open(f"{out}.not-judged", encoding="utf-8") as lines:
         listed = [json.loads(it) for it in lines if it.endswith("\n")]
@@ -303,21 +302,21 @@ def tell_unjudged(out: str) -> None:
 
 
 def run_command(command: Sequence[str]) -> None:
-    """Runs the operator's command. If it fails that is said."""
+    """Runs the operator's command; reports if it fails."""
     try:
         status = subprocess.run(command, stdin=subprocess.DEVNULL).returncode
         fault = f"ended with status {status}" if status else ""
     except OSError as it:
         fault = f"can't be run: {it.strerror}"
     if fault:
-        tell_fault(f"{escaped(' '.join(command))} {fault}")
+        report_fault(f"{escaped(' '.join(command))} {fault}")
 
 
 # The command line
 
 
 def parse_arguments(arguments: Optional[Sequence[str]]) -> argparse.Namespace:
-    """Reads the arguments; without any, those of the process. What follows `--` is the command."""
+    """Parses the arguments; those of the process if there are none. After `--` comes the command."""
     own, command = list(sys.argv[1:] if arguments is None else arguments), []
     if "--" in own:
         at = own.index("--")
@@ -328,33 +327,33 @@ def parse_arguments(arguments: Optional[Sequence[str]]) -> argparse.Namespace:
         usage="%(prog)s OUT [OPTIONS] [-- COMMAND ..]",
     )
     add = parser.add_argument
-    add("out", metavar="OUT", help="the history, or the directory of histories")
+    add("out", metavar="OUT", help="the history, or a directory of histories")
     add(
         "--every",
         type=number_from(0.1, float),
         default=EVERY,
-        help="seconds between the beginnings of two rounds of checks (5)",
+        help="seconds between the starts of two checks (5)",
     )
     add_reading_options(add)
-    add("--program", help="the casbench that checks (./casbench, or that on the path)")
-    add("--delete-parts", action="store_true", help="delete finished parts that get yes")
-    add("--until-closed", action="store_true", help="end, after a last check, when standard input ends")
+    add("--program", help="the casbench program to check with (./casbench, else the one in PATH)")
+    add("--delete-parts", action="store_true", help="delete each finished part whose answer is yes")
+    add("--until-closed", action="store_true", help="exit after a last check at the end of standard input")
     setting = parser.parse_args(own)
     setting.command = command
     return setting
 
 
 def main(arguments: Optional[Sequence[str]] = None) -> int:
-    """Watches by the arguments, and returns the exit status."""
+    """Watches a recording, and returns the exit status."""
     setting = parse_arguments(arguments)
     try:
         return Watch(setting, WatchStop(setting.until_closed)).run()
     except (CheckError, ShrinkError, OSError) as fault:
-        tell_fault(escaped(str(fault)))
+        report_fault(escaped(str(fault)))
         return CAN_NOT_CHECK
     except KeyboardInterrupt:
         return 130
     except Exception as fault:
-        # (with the status of a fault, and not with that of a verdict, which Python would take)
-        tell_fault(f"a fault of the watch: {escaped(repr(fault))}")
+        # (Python's own status for an exception is that of a verdict)
+        report_fault(f"an internal error of the watch: {escaped(repr(fault))}")
         return CAN_NOT_CHECK

@@ -1,5 +1,4 @@
-"""A watch that runs beside a recorder, in its process group, and has it stop at the first fault that is
-proved."""
+"""A watch as a child process of a recorder, which stops the recorder at the first proved fault."""
 
 import argparse
 import contextlib
@@ -19,7 +18,7 @@ from casbench_recording.shrink import ShrinkError, program_at_hand
 from .snapshots import CheckError, try_check
 
 EVERY = 5.0
-"""How many seconds lie between the beginnings of two rounds of checks, if nothing else is said."""
+"""The default interval in seconds between the starts of two checks."""
 
 REFUTED, CAN_NOT_CHECK = 1, 4
 """The exit statuses of a watch that ends by itself: the recording is refuted, or can't be checked."""
@@ -28,37 +27,37 @@ ANSWERS = (0, 1, 2)
 """The exit statuses of a watch that was asked to end, and gave its last answer."""
 
 SHORTEST_PAUSE, LONGEST_PAUSE = 1.0, 60.0
-"""After how many seconds a watch that failed is started again: twice as many each time, unless it lasted
-longer than the most of them."""
+"""The delay in seconds before a failed watch is restarted; it doubles up to the longest, unless the watch ran
+longer than that."""
 
 GRACE = 0.3
-"""For how many seconds nothing is said of a watch that ended: whatever ended it may end the recorder too."""
+"""How many seconds the end of a watch isn't reported: what ended it may also be ending the recorder."""
 
 PACKAGE = str(pathlib.Path(__file__).resolve().parents[2])
-"""The directory in which the package lies."""
+"""The directory that contains the package."""
 
 
 class WatchProcess:
-    """A watch of a recording. It ends with the block, after a last check, or when the recorder ends, however
-    that ends.
+    """A watch of a recording. It ends with the block, after a last check, or with the recorder, however that
+    ends.
 
-    If it ends before, since the recording is refuted, `refuted` is called, on a thread of its own. If it ends
-    before in any other way, as when it is killed or can't check, a line says so, and it is started again: the
-    recording goes on.
+    If it ends earlier because the recording is refuted, `refuted` is called on another thread. If it ends
+    earlier in any other way, for example because it is killed or can't check, this is reported and the watch
+    is restarted; the recording goes on.
     """
 
     def __init__(
-        self, out: str, options: Sequence[str], refuted: Callable[[], None], tell: Callable[[str], object]
+        self, out: str, options: Sequence[str], refuted: Callable[[], None], report: Callable[[str], object]
     ) -> None:
         self._start = [sys.executable, "-m", "casbench_recording.watch", out, "--until-closed"]
         self._options = options
         self._refuted = refuted
-        self._tell = tell
+        self._report = report
         self._is_ending = threading.Event()
-        # whether the watch at hand was ended to run with other options
+        # whether the current watch was ended to be restarted with other options
         self._is_changing = False
-        # guards the process at hand: it is begun either before it is asked to end, or after that, for a last
-        # check
+        # guards the current process: it is started either before it is asked to end, or after that, for a
+        # last check
         self._lock = threading.Lock()
         self._process: "Optional[subprocess.Popen[bytes]]" = None
         self._thread = threading.Thread(target=self._watch, daemon=True)
@@ -70,17 +69,16 @@ class WatchProcess:
         return self
 
     def change(self, options: Sequence[str]) -> None:
-        """Has the watch go on with other options."""
+        """Restarts the watch with other options."""
         with self._lock:
             self._options, self._is_changing = options, True
             if self._process is not None:
                 self._process.terminate()
 
     def _watch(self) -> None:
-        """Runs the watch, and runs it again if it ends without an answer, or without having been asked to
-        end."""
-        # (what is started here ignores Ctrl-C, which is for the recorder: it ends the watch when the last
-        # line is written)
+        """Runs the watch, again and again until it was asked to end and has answered."""
+        # (child processes of this thread ignore Ctrl-C, which is for the recorder: it ends the watch after
+        # the last line)
         signal.pthread_sigmask(signal.SIG_BLOCK, {signal.SIGINT})
         pause = SHORTEST_PAUSE
         while not self._is_ending.is_set():
@@ -100,15 +98,15 @@ class WatchProcess:
                     if self.status < 0
                     else f"ended with status {self.status}"
                 )
-                self._tell(
-                    f"the watch {how}: the recording goes on, and the watch is started again in {pause:.0f} s"
+                self._report(
+                    f"the watch {how}: the recording goes on, and the watch is restarted in {pause:.0f} s"
                 )
                 self._is_ending.wait(pause)
                 pause = min(2 * pause, LONGEST_PAUSE)
         if self.status not in ANSWERS:
             self.status = self._run()
         if self.status not in ANSWERS:
-            self._tell(f"the watch gave no last answer: it ended with status {self.status}")
+            self._report(f"the watch gave no last answer: it ended with status {self.status}")
             self.status = CAN_NOT_CHECK
 
     def _run(self) -> int:
@@ -124,12 +122,12 @@ class WatchProcess:
                 if self._is_ending.is_set():
                     self._close()
         except OSError as fault:
-            self._tell(f"the watch can't be started: {fault}")
+            self._report(f"the watch can't be started: {fault}")
             return CAN_NOT_CHECK
         return self._process.wait()
 
     def _close(self) -> None:
-        """Asks the watch at hand to end, after a last check."""
+        """Asks the watch to end after a last check."""
         if self._process is not None and self._process.stdin is not None:
             with contextlib.suppress(BrokenPipeError):
                 self._process.stdin.close()
@@ -143,7 +141,7 @@ class WatchProcess:
 
 
 def try_watch(setting: argparse.Namespace) -> None:
-    """Sees to it, before anything is recorded, that the program of the watch checks. Raises CheckError."""
+    """Checks before the recording that the program of the watch works. Raises CheckError."""
     try:
         program = setting.program or program_at_hand()
     except ShrinkError as fault:
@@ -152,27 +150,30 @@ def try_watch(setting: argparse.Namespace) -> None:
 
 
 def options_of(reading: Reading) -> List[str]:
-    """The options of the watch's checks, in this reading."""
+    """Returns the options of the watch's checks in this reading."""
     return ["--rule-out", *reading.options()]
 
 
 def watch_options(setting: argparse.Namespace) -> List[str]:
-    """The options of the watch, from those of the recorder, and the reading of that."""
+    """Returns the options of the watch, from those of the recorder and its reading."""
     program = ["--program", setting.program] if setting.program is not None else []
     return ["--every", str(setting.every), *setting.reading.options(), *program]
 
 
 def add_watch_options(add: Callable[..., object]) -> None:
-    """Adds the options of a recorder that is watched."""
+    """Adds the options of a recorder with a watch."""
     add(
         "--watch",
         action="store_true",
-        help="check what is recorded, and stop at the first fault that is proved",
+        help="check the recording while it is made, and stop at the first proved fault",
     )
     add(
         "--every",
         type=number_from(0.1, float),
         default=EVERY,
-        help="with --watch: seconds between two rounds of checks (5)",
+        help="with --watch: seconds between checks (5)",
     )
-    add("--program", help="with --watch: the casbench that checks (./casbench, or that on the path)")
+    add(
+        "--program",
+        help="with --watch: the casbench program to check with (./casbench, else the one in PATH)",
+    )

@@ -1,4 +1,4 @@
-"""Checks of a history while it grows: of as much of the file as is whole lines, by the program."""
+"""Runs the program on the complete lines of a growing history."""
 
 import contextlib
 import io
@@ -16,28 +16,28 @@ from typing import IO, BinaryIO, Iterator, Sequence
 from casbench_recording.history.format import LONGEST_LINE
 
 AT_ONCE = 1 << 20
-"""How many bytes are handed to the program at once."""
+"""How many bytes are written to the program at a time."""
 
 MOST_WRITTEN = 1 << 24
-"""The most bytes that the program may write of a history."""
+"""The maximum length of the program's output in bytes."""
 
 LONGEST_SHOWN = 300
-"""The most letters of what the program writes that stand in the words of a fault."""
+"""How many characters of the program's output are shown in an error."""
 
 VERDICTS = {"yes": 0, "no": 1, "refuted": 1, "refused": 2}
-"""The exit status of each verdict, by the word with which its line begins."""
+"""The exit status of each verdict, by its first word."""
 
 VERDICT = re.compile(rf"({'|'.join(VERDICTS)}) [ -~]+\n")
-"""The line of a verdict."""
+"""Matches the line of a verdict."""
 
 
 class CheckError(Exception):
-    """Why a history can't be checked, in words for the operator."""
+    """Why a history can't be checked, for the operator."""
 
 
 @dataclass(frozen=True)
 class ProgramAnswer:
-    """What the program writes of a history, its exit status, and how many seconds of a processor it took."""
+    """The output of the program for a history, its exit status, and its CPU time in seconds."""
 
     text: str
     status: int
@@ -45,7 +45,7 @@ class ProgramAnswer:
 
     @property
     def line(self) -> str:
-        """The line that answers the history, without its end."""
+        """The first line, without its line feed."""
         return self.text.partition("\n")[0]
 
     @property
@@ -55,8 +55,7 @@ class ProgramAnswer:
 
 
 class Snapshot:
-    """The lines of a file that are whole at this moment. What is written behind them later isn't looked
-    at."""
+    """The complete lines of a file at this moment. Lines that are written later are ignored."""
 
     def __init__(self, path: str) -> None:
         self.path = path
@@ -64,7 +63,7 @@ class Snapshot:
             self.length = whole_length(file)
 
     def lines_from(self, start: int) -> Iterator[bytes]:
-        """The lines behind so many bytes, which end with a line."""
+        """Returns the lines after this number of bytes, which is the end of a line."""
         with open(self.path, "rb") as file:
             file.seek(start)
             left = self.length - start
@@ -74,26 +73,26 @@ class Snapshot:
                 yield line
 
     def ask(self, command: Sequence[str]) -> ProgramAnswer:
-        """What the program writes that is run with these words, and given the lines on standard input."""
+        """Runs this command with the lines as its standard input; returns the answer."""
         with open(self.path, "rb") as file:
             return ask(command, file, self.length)
 
     def check(self, command: Sequence[str]) -> ProgramAnswer:
-        """The verdict of a check that is run with these words. Raises CheckError if the program writes
-        anything else."""
+        """Runs this check on the lines; returns the verdict. Raises CheckError if the output is anything
+        else."""
         return verdict(command, self.ask(command))
 
 
 def try_check(command: Sequence[str]) -> None:
-    """Has a text without a line checked. Raises CheckError if the program can't be run, or doesn't answer as
-    a check does."""
+    """Runs this check on an empty text. Raises CheckError if the program can't be run, or doesn't answer as a
+    check does."""
     answer = verdict(command, ask(command, io.BytesIO(), 0))
     if answer.word != "yes":
-        raise CheckError(f"{command[0]} says of a text without a line: {answer.line[:LONGEST_SHOWN]!r}")
+        raise CheckError(f"{command[0]} answers an empty text with {answer.line[:LONGEST_SHOWN]!r}")
 
 
 def verdict(command: Sequence[str], answer: ProgramAnswer) -> ProgramAnswer:
-    """The answer, which is refused with CheckError unless it is one verdict and has its status."""
+    """Returns the answer; raises CheckError unless it is a single verdict with its status."""
     if not VERDICT.fullmatch(answer.text) or VERDICTS[answer.word] != answer.status:
         shown = repr(answer.text[:LONGEST_SHOWN])
         raise CheckError(f"{command[0]} ended with status {answer.status} and gave no verdict: {shown}")
@@ -101,28 +100,27 @@ def verdict(command: Sequence[str], answer: ProgramAnswer) -> ProgramAnswer:
 
 
 def ask(command: Sequence[str], file: BinaryIO, length: int) -> ProgramAnswer:
-    """What the program writes that is run with these words, and given so many bytes of a file on standard
-    input.
+    """Runs this command with the first `length` bytes of a file as its standard input; returns the answer.
 
     Raises CheckError if it can't be run, writes too much, or ends with a status that no verdict has.
     """
     before = time.process_time() + seconds_of_children()
     with tempfile.TemporaryFile() as fault:
-        told, status = run(command, file, length, fault)
-        if status not in VERDICTS.values() or len(told) > MOST_WRITTEN:
+        output, status = run(command, file, length, fault)
+        if status not in VERDICTS.values() or len(output) > MOST_WRITTEN:
             fault.seek(0)
             why = fault.read(LONGEST_SHOWN).decode(errors="replace").strip()
-            wrote = "wrote too much and " if len(told) > MOST_WRITTEN else ""
+            wrote = "wrote too much and " if len(output) > MOST_WRITTEN else ""
             raise CheckError(f"{command[0]} {wrote}ended with status {status}: {why}")
     seconds = time.process_time() + seconds_of_children() - before
-    return ProgramAnswer(told.decode(errors="replace"), status, seconds)
+    return ProgramAnswer(output.decode(errors="replace"), status, seconds)
 
 
 def run(command: Sequence[str], file: BinaryIO, length: int, fault: IO[bytes]) -> "tuple[bytes, int]":
-    """What the program writes, up to a byte more than it may, and its exit status; it is killed if it writes
-    more."""
+    """Runs this command; returns its output, up to one byte more than the maximum, and its exit status. It is
+    killed if it writes more."""
     try:
-        # (Ctrl-C is for who watches; it has the check come to its end)
+        # (Ctrl-C is for the watch, which lets the check finish)
         program = subprocess.Popen(
             command, stdin=subprocess.PIPE, stdout=subprocess.PIPE, stderr=fault, preexec_fn=ignore_interrupts
         )
@@ -130,30 +128,30 @@ def run(command: Sequence[str], file: BinaryIO, length: int, fault: IO[bytes]) -
         raise CheckError(f"{command[0]} can't be run: {it}") from it
     with program:
         assert program.stdin is not None and program.stdout is not None
-        # (by a thread: the program may write before it has read all)
+        # (on a thread, since the program may write before it has read everything)
         feeder = threading.Thread(target=copy, args=(file, program.stdin, length), daemon=True)
         feeder.start()
-        told = program.stdout.read(MOST_WRITTEN + 1)
-        if len(told) > MOST_WRITTEN:
+        output = program.stdout.read(MOST_WRITTEN + 1)
+        if len(output) > MOST_WRITTEN:
             program.kill()
-        # (what still writes or reads of it ends then)
+        # (the program and the thread end then)
         program.stdout.close()
         feeder.join()
-    return told, program.returncode
+    return output, program.returncode
 
 
 def whole_length(file: BinaryIO) -> int:
-    """How many bytes of a file its whole lines take."""
+    """Returns the total length of the complete lines of a file."""
     size = file.seek(0, os.SEEK_END)
     start = max(0, size - LONGEST_LINE - 1)
     file.seek(start)
     end = file.read(size - start).rfind(b"\n")
-    # (a line that is too long is for the program to refuse)
+    # (the program refuses a line that is too long)
     return start + end + 1 if end >= 0 or not start else size
 
 
 def copy(file: BinaryIO, to: IO[bytes], length: int) -> None:
-    """Copies so many bytes, and closes what they go to. A reader that needs no more, since it refuses a line,
+    """Copies this many bytes, and closes the target. A program that needs no more, because it refuses a line,
     closes its end."""
     with contextlib.suppress(BrokenPipeError):
         while length > 0:
@@ -167,11 +165,11 @@ def copy(file: BinaryIO, to: IO[bytes], length: int) -> None:
 
 
 def seconds_of_children() -> float:
-    """How many seconds of a processor the programs took that have ended."""
+    """Returns the CPU time in seconds of the child processes that have ended."""
     used = resource.getrusage(resource.RUSAGE_CHILDREN)
     return used.ru_utime + used.ru_stime
 
 
 def ignore_interrupts() -> None:
-    """Has the program that begins take no notice of Ctrl-C."""
+    """Has a new process ignore Ctrl-C."""
     signal.signal(signal.SIGINT, signal.SIG_IGN)

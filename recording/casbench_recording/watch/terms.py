@@ -1,8 +1,8 @@
-"""Terms that start too low: a hint of acknowledged writes that were lost, where no reply shows it.
+"""Detects terms that start too low: a hint of lost acknowledged writes that no reply shows.
 
-A primary that takes over goes on behind the last number that it knows. If its term starts at a number up to
-that of a write which was acknowledged in an earlier term, it didn't know of that write. A history in which
-nobody reads the write again may have an order all the same, since pairs are compared by their terms first.
+A new primary continues after the last sequence number that it knows. If its term starts at a number that
+isn't above that of a write acknowledged in an earlier term, it didn't know that write. A history in which
+nobody reads the write again may still have an order, since pairs are compared by their terms first.
 """
 
 import json
@@ -12,7 +12,8 @@ from casbench_recording.history.format import Pair, pair_of
 
 
 class Term:
-    """What replies show of a term: its least number, and the greatest that a write was acknowledged with."""
+    """What replies show of a term: its smallest number, and the greatest one that was acknowledged for a
+    write."""
 
     __slots__ = ("least", "acknowledged")
 
@@ -22,8 +23,8 @@ class Term:
 
 
 class Hint(NamedTuple):
-    """A term of a shard, the number at which it starts or before which it does, and the greatest acknowledged
-    pair that isn't before it."""
+    """A term of a shard that starts at or before a number, and the greatest acknowledged pair that isn't
+    before it."""
 
     shard: int
     start: Pair
@@ -42,7 +43,7 @@ class Terms:
         self._shards: Dict[int, Dict[int, Term]] = {}
 
     def show(self, shard: int, pair: Pair, is_acknowledged: bool) -> None:
-        """Takes a pair that a reply shows, of a write that it acknowledges or not."""
+        """Adds a pair that a reply shows, and whether the reply acknowledges its write."""
         terms = self._shards.setdefault(shard, {})
         term = terms.setdefault(pair.term, Term(pair.seq))
         term.least = min(term.least, pair.seq)
@@ -50,13 +51,13 @@ class Terms:
             term.acknowledged = pair.seq
 
     def hints(self) -> List[Hint]:
-        """The terms that start too low, by shard and term."""
+        """Returns the terms that start too low, by shard and term."""
         return [it for shard, terms in sorted(self._shards.items()) for it in hints_of(shard, terms)]
 
 
 def hints_of(shard: int, terms: Dict[int, Term]) -> Iterable[Hint]:
-    """The terms of a shard that start too low."""
-    # the greatest acknowledged pair that no hint says is lost
+    """Returns the terms of a shard that start too low."""
+    # the greatest acknowledged pair, unless a hint says that it is lost
     last: Optional[Pair] = None
     for number, term in sorted(terms.items()):
         if last is not None and term.least <= last.seq:
@@ -67,24 +68,24 @@ def hints_of(shard: int, terms: Dict[int, Term]) -> Iterable[Hint]:
 
 
 class TermReader:
-    """Reads the lines of a history as it grows. The text is one that casbench takes."""
+    """Reads the lines of a growing history. casbench has accepted the text."""
 
     def __init__(self, terms: Terms) -> None:
         self._terms = terms
-        # how many bytes were read
+        # the number of bytes read
         self.length = 0
-        # of each open call its shard, and whether it is a write
+        # for each open call its shard, and whether it is a write
         self._open: Dict[int, Tuple[int, bool]] = {}
 
     def read(self, lines: Iterable[bytes]) -> None:
-        """Takes the next lines."""
+        """Reads the next lines."""
         for line in lines:
             self.length += len(line)
             if line.strip():
                 self._take(json.loads(line))
 
     def _take(self, event: Dict[str, Any]) -> None:
-        """Takes an event."""
+        """Reads an event."""
         if event["e"] == "call":
             self._open[event["n"]] = event.get("shard", 0), event["op"] != "get"
         else:

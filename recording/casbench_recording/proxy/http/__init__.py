@@ -1,2 +1,2 @@
-"""The connections of the proxy: to its clients and to the cluster, and the exchanges of requests and answers
-on them."""
+"""The connections of the proxy, to clients and to the cluster, and the exchanges of requests and answers on
+them."""

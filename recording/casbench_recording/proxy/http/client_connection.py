@@ -1,5 +1,5 @@
-"""A client's connection, and the one to the cluster that it has: how it is made and closed, how much waits,
-and for how long."""
+"""The connection of a client, with its own connection to the cluster: connecting, closing, flow control and
+timeouts."""
 
 import socket
 from typing import TYPE_CHECKING, Optional, Union
@@ -17,14 +17,14 @@ if TYPE_CHECKING:
     from casbench_recording.proxy.server import ProxiedNode, Proxy
 
 MOST_AHEAD = 65_536
-"""How many bytes of later requests are taken while one is open."""
+"""How many bytes of later requests are read while one is open."""
 
 MOST_TO_CONNECT = 10.0
-"""For how many seconds a client waits until the cluster can be asked."""
+"""How many seconds a client waits for the connection to the cluster."""
 
 
 def address_of(connection: socket.socket) -> str:
-    """The address of the other side, as `127.0.0.1:40000`; empty if it is gone."""
+    """Returns the address of the other side, such as `127.0.0.1:40000`; empty if it is gone."""
     try:
         host, port, *_ = connection.getpeername()
     except (OSError, ValueError):
@@ -33,7 +33,7 @@ def address_of(connection: socket.socket) -> str:
 
 
 class ClientConnection:
-    """A client's connection. It has one to the cluster of its own, which lives as long."""
+    """The connection of a client. It has its own connection to the cluster, which is closed with it."""
 
     stream: Stream
     exchange: Optional[Exchange]
@@ -44,7 +44,7 @@ class ClientConnection:
     def __init__(self, proxy: "Proxy", node: "ProxiedNode", connection: socket.socket) -> None:
         self.proxy = proxy
         self.node = node
-        # names the client in the lines of its calls, unless it says who it is
+        # the client in the lines of its calls, unless it sends an X-Opaque-Id
         self.default_requester = Requester(address_of(connection), node.name)
         self.stream = Stream(proxy.loop, connection, self)
         self.data = b""
@@ -53,16 +53,16 @@ class ClientConnection:
         self.connecting: Optional[Connecting] = None
         self.is_connected = False
         self.is_cluster_full = self.is_paused = False
-        # until when the connection to the cluster has to be there
+        # when the connection to the cluster has to be made
         self.connected_by = 0.0
-        # when something last came, or was taken; how much waits here and at the cluster's side
+        # the time of the last activity; how many bytes are buffered here and on the cluster's side
         self.active_at = proxy.loop.now
         self.held = self.last_weight = 0
         proxy.clients.add(self)
 
     def received(self, data: bytes) -> None:
-        """Takes what the client sent. With its first bytes a connection to the cluster is made, before
-        anything is recorded."""
+        """Handles data from the client. The first data opens the connection to the cluster, before anything
+        is recorded."""
         self.active_at = self.proxy.loop.now
         self.data = self.data + data if self.data else data
         if self.is_connected:
@@ -74,7 +74,7 @@ class ClientConnection:
         self.update_flow()
 
     def connection_made(self, made: Union[socket.socket, OSError]) -> None:
-        """Takes the connection to the cluster, or the fault for which there is none."""
+        """Takes the connection to the cluster, or the error if there is none."""
         if isinstance(made, OSError):
             self.has_cluster(made)
         elif self.stream.is_closing:
@@ -83,7 +83,7 @@ class ClientConnection:
             self.cluster = ClusterSide(self, made)
 
     def has_cluster(self, fault: Optional[OSError]) -> None:
-        """Goes on once the cluster can be asked, or tells the client why it can't."""
+        """Goes on when the cluster is connected, or answers the client that it can't be reached."""
         if fault is None:
             self.is_connected = True
             self.go_on()
@@ -91,7 +91,7 @@ class ClientConnection:
             self.close(refusal("502 Bad Gateway", f"the cluster can't be reached: {fault}"))
 
     def go_on(self) -> None:
-        """Passes on what it can of what the client sent."""
+        """Processes the data from the client as far as possible."""
         try:
             while not self.stream.is_closing and self.has_step():
                 pass
@@ -115,34 +115,34 @@ class ClientConnection:
             self.update_flow()
 
     def ended(self) -> None:
-        """Hears that the client sends no more. The answer to what it sent is still passed on."""
+        """Called when the client sends no more. The answer to its request is still passed on."""
         if not self.data and self.exchange is None:
             self.close()
         elif self.is_connected:
             self.go_on()
 
-    # What is done with requests
+    # Requests
 
     def has_step(self) -> bool:
-        """Does the next step with what the client sent; tells whether there may be another one."""
+        """Does the next step with the data from the client; returns whether there may be another one."""
         raise NotImplementedError
 
     def answered(self) -> None:
-        """Goes on with the next request, after an answer was passed on."""
+        """Goes on with the next request after an answer was passed on."""
         raise NotImplementedError
 
     def give_up(self) -> None:
-        """Writes the calls that are open as lost."""
+        """Writes the open calls as lost."""
         raise NotImplementedError
 
     def lose(self, exchange: Exchange) -> None:
         """Writes the calls of a request as lost."""
         raise NotImplementedError
 
-    # How much waits, and for how long
+    # Flow control and timeouts
 
     def close(self, last: bytes = b"") -> None:
-        """Closes the connection, and the one to the cluster, after these last bytes."""
+        """Closes the connection after these last bytes, and the connection to the cluster."""
         if not self.stream.is_closing:
             self.stream.write(last)
             self.stream.linger()
@@ -152,8 +152,8 @@ class ClientConnection:
             self.cluster.stream.abort()
 
     def update_flow(self) -> None:
-        """Takes no more from the client while the cluster is slow to take it, or while an answer is waited
-        for and much has come."""
+        """Stops reading from the client while the send buffer to the cluster is full, or while an answer is
+        awaited and much of the next requests was received."""
         exchange = self.exchange
         is_taken = exchange is not None and exchange.state is not TAKING
         is_paused = (
@@ -166,7 +166,7 @@ class ClientConnection:
             self.account()
 
     def account(self) -> None:
-        """Tells the proxy how much waits here, and at the cluster's side."""
+        """Reports to the proxy how many bytes are buffered for this client."""
         exchange = self.exchange
         held = len(self.data) + (len(self.cluster.data) if self.cluster is not None else 0)
         if exchange is not None:
@@ -182,14 +182,13 @@ class ClientConnection:
             self.held = held
 
     def weight(self) -> int:
-        """How many bytes wait for this client, or came from it, or wait to be sent to it."""
+        """Returns how many bytes are buffered for this client, in both directions."""
         return (
             self.held + self.stream.waiting + (self.cluster.stream.waiting if self.cluster is not None else 0)
         )
 
     def check_timeouts(self, now: float, most_idle: float) -> None:
-        """Closes the connection if it takes too long to make the one to the cluster, or nothing happens that
-        the client could do."""
+        """Closes the connection if connecting to the cluster takes too long, or if the client is idle."""
         weight = self.weight()
         if weight != self.last_weight:
             self.last_weight, self.active_at = weight, now
@@ -199,28 +198,27 @@ class ClientConnection:
             self.stream.abort()
 
     def waits_for_cluster(self) -> bool:
-        """Whether it is for the cluster to do something, and the client is there to see it."""
+        """Returns whether the client, which is still there, waits for the cluster."""
         is_asked = self.exchange is not None and self.exchange.state is not TAKING
         return is_asked and not self.stream.waiting and not self.stream.is_at_end
 
     def pause_writing(self) -> None:
-        """Takes no more from the cluster while the client is slow to take it."""
+        """Called when the send buffer to the client is full: stops reading from the cluster."""
         if self.cluster is not None:
             self.cluster.stream.pause_reading()
 
     def resume_writing(self) -> None:
-        """Takes from the cluster again."""
+        """Called when the send buffer to the client is empty: reads from the cluster again."""
         is_answered = self.exchange is not None and self.exchange.state in WITH_ANSWER
         if self.cluster is not None and not is_answered and not self.stream.is_paused:
             self.cluster.stream.resume_reading()
 
     def connection_lost(self) -> None:
-        """Ends the connection to the cluster, and with it what the client asked: it will hear of no
-        answer."""
+        """Closes the connection to the cluster. Open calls of the client are lost: it will get no answer."""
         self.proxy.clients.discard(self)
         self.proxy.hold(-self.held)
         self.held = 0
         self.give_up()
         self.close()
-        # (what refers to itself would wait for the garbage collector, which comes seldom)
+        # (reference cycles would stay until the garbage collector runs, which is seldom)
         self.connecting = self.cluster = None

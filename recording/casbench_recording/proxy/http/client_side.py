@@ -1,4 +1,4 @@
-"""What a client asks: its requests are passed on as they came, behind the lines of their calls."""
+"""The requests of a client: they are passed on unchanged, after the lines of their calls are written."""
 
 import functools
 from typing import Iterator, Optional
@@ -27,22 +27,22 @@ from .client_connection import ClientConnection
 from .exchange import HELD, SENT, TAKING, WITH_ANSWER, Coming, ComingInPieces, Exchange
 
 FEW_PARTS = 16
-"""Of how many parts of a request it isn't counted how much memory they take."""
+"""Requests with at most this many parts are not accounted for."""
 
 MAKERS = (CALL, BULK, RouteKind.NEW, RouteKind.UPDATE, RouteKind.UNJUDGED, RouteKind.MAKE)
-"""Requests that may make the index, unless they are gets."""
+"""Requests that may create the index, except for gets."""
 
 HEADS = 4
-"""How many times a long head is kept at most: as it is, its target, and the words that are read there."""
+"""How many copies of a long head are kept at most: the head, its target, and its parameters."""
 
 CONTINUE = b"HTTP/1.1 100 Continue\r\n\r\n"
 
 
 class ClientSide(ClientConnection):
-    """A client's connection, from which requests are taken one by one."""
+    """The connection of a client, from which requests are read one by one."""
 
     def has_step(self) -> bool:
-        """Does the next step with what the client sent; tells whether there may be another one."""
+        """Does the next step with the data from the client; returns whether there may be another one."""
         exchange = self.exchange
         if exchange is None:
             return self.has_request()
@@ -58,14 +58,14 @@ class ClientSide(ClientConnection):
         return exchange.state is SENT
 
     def go_on_with(self, exchange: Exchange) -> None:
-        """Goes on after something was done for the request at hand."""
+        """Goes on with a request after what had to be done for it is done."""
         exchange.go_on()
         if not self.stream.is_closing and (self.data or self.stream.is_at_end):
             self.proxy.loop.soon(self.go_on)
 
     def has_request(self) -> bool:
-        """Takes the head of a request, and all of it where it came in one piece; tells whether there may be
-        another step."""
+        """Reads the head of a request, and all of it if it was received in one piece; returns whether there
+        may be another step."""
         data = self.data
         if data.startswith(b"\r\n"):
             data = self.data = without_empty_lines(data)
@@ -91,7 +91,7 @@ class ClientSide(ClientConnection):
             and end + length <= MOST_READ
             and not request.fields.encoding
         ):
-            # (it may make the index, and is read as a whole)
+            # (it may create the index, and is read as a whole)
             is_bulk = False
         if length is not None and len(data) >= end + length and not (is_bulk and request.fields.encoding):
             whole = end + length
@@ -107,15 +107,15 @@ class ClientSide(ClientConnection):
         return True
 
     def requester_of(self, request: Request) -> Requester:
-        """Who asks, by a request's own word or by the address, and the node."""
+        """Returns who sends a request, by its X-Opaque-Id or else the address, and the node."""
         client = request.fields.opaque_id
         return Requester(client, self.node.name) if client else self.default_requester
 
     def ask_and_send(
         self, exchange: Exchange, content: Optional[bytes], data: bytes, is_all: bool, has_turn: bool = False
     ) -> None:
-        """Has the calls of a request written, and passes it on. The content is None where too much of it came
-        to be read."""
+        """Has the calls of a request written, and passes it on. The content is None if it is too long to be
+        read."""
         route, request, proxy = exchange.route, exchange.request, self.proxy
         if route is not PASS:
             if proxy.discovery is not None and not has_turn and proxy.discovery.concerns(route, content):
@@ -144,7 +144,7 @@ class ClientSide(ClientConnection):
         data: bytes,
         is_all: bool,
     ) -> None:
-        """Holds back a request for an index that isn't there yet until it has its turn."""
+        """Holds a request for an index that doesn't exist yet until it is its turn."""
         exchange.hold()
         exchange.weight += len(data)
         self.account()
@@ -158,8 +158,8 @@ class ClientSide(ClientConnection):
         data: bytes,
         is_all: bool,
     ) -> None:
-        """Passes on a request for an index that isn't there yet. One that may make it keeps the turn until it
-        was answered."""
+        """Passes on a request for an index that doesn't exist yet. If it may create the index, the next turn
+        comes after its answer."""
         exchange.go_on()
         exchange.weight -= len(data)
         route, request = exchange.route, exchange.request
@@ -180,13 +180,14 @@ class ClientSide(ClientConnection):
             self.go_on_with(exchange)
 
     def swept(self, exchange: Exchange, data: bytes, is_all: bool) -> None:
-        """Passes on a request that may change every document, after none that was there is judged."""
+        """Passes on a request that may change every document, after the existing ones are not judged any
+        more."""
         if not self.stream.is_closing:
             self.send(exchange, data, is_all)
         self.go_on_with(exchange)
 
     def send(self, exchange: Exchange, data: bytes, is_all: bool) -> None:
-        """Passes on what came of a request, perhaps the last of it."""
+        """Passes on a part of a request; `is_all` if it is the last one."""
         assert self.cluster is not None
         if is_all:
             exchange.send_all()
@@ -199,7 +200,7 @@ class ClientSide(ClientConnection):
         self.cluster.stream.write(data)
 
     def take_piece(self, exchange: Exchange, coming: Coming) -> None:
-        """Takes what came of a request, holds it back where it has to be read, and passes it on."""
+        """Reads a part of a request, holds it back as long as its body has to be read, and passes it on."""
         body = coming.body
         count = body.take(self.data)
         if count:
@@ -218,7 +219,7 @@ class ClientSide(ClientConnection):
             self.send(exchange, coming.taken(), body.is_done)
 
     def take_items(self, exchange: Exchange, coming: ComingInPieces) -> Iterator[None]:
-        """Takes what came of a bulk request, in steps, and passes it on as far as the calls of its items are
+        """Reads a part of a bulk request, in steps, and passes it on as far as the calls of its items are
         written."""
         judge, body, recorded = self.proxy.judge, coming.body, exchange.recorded
         assert isinstance(recorded, RecordedBulkRequest)
@@ -245,13 +246,13 @@ class ClientSide(ClientConnection):
             exchange.coming, exchange.recorded = Coming(b"", body, False), None
 
     def answered(self) -> None:
-        """Goes on with the next request, after an answer was passed on."""
+        """Goes on with the next request after an answer was passed on."""
         self.exchange = None
         if self.data or self.stream.is_at_end:
             self.go_on()
 
     def give_up(self) -> None:
-        """Writes the calls that are open as lost."""
+        """Writes the open calls as lost."""
         exchange, discovery = self.exchange, self.proxy.discovery
         if exchange is None or exchange.state in WITH_ANSWER:
             return
@@ -260,7 +261,7 @@ class ClientSide(ClientConnection):
             discovery.never_answered(exchange)
 
     def lose(self, exchange: Exchange) -> None:
-        """Writes the calls of a request as lost. If it might have made the index others go on."""
+        """Writes the calls of a request as lost. If it might have created the index, others go on."""
         recorded, exchange.recorded = exchange.recorded, None
         if recorded is not None:
             self.proxy.judge.lost(recorded)

@@ -1,5 +1,5 @@
-"""The connection to the cluster that a client's has: answers are passed on as they came, behind the lines of
-what they say."""
+"""The connection to the cluster: answers are passed on unchanged, after the lines of their replies are
+written."""
 
 import socket
 from typing import TYPE_CHECKING, Iterator, Optional, Union
@@ -29,15 +29,14 @@ if TYPE_CHECKING:
     from .client_connection import ClientConnection
 
 OF_OTHERS = (RouteKind.PASS, BULK, RouteKind.CHECK_BODY)
-"""Requests that aren't for the index, by the names of it that are known, unless their bodies say so."""
+"""Requests that are not for the index by its known names, unless their bodies name it."""
 
 MOST_OF_ITEMS = 32 * 1024 * 1024
-"""The most bytes of an answer to a bulk request that are held back to be read, some of its items at a
-time."""
+"""The maximum length in bytes of an answer to a bulk request that is held back to be read."""
 
 
 class ClusterSide:
-    """The connection to the cluster that a client's has."""
+    """The connection to the cluster of a client's connection."""
 
     stream: Union[Stream, TlsStream]
 
@@ -54,7 +53,7 @@ class ClusterSide:
             )
 
     def received(self, data: bytes) -> None:
-        """Takes what the cluster sent, and passes it on."""
+        """Handles data from the cluster."""
         client = self.client
         client.active_at = client.proxy.loop.now
         self.data = self.data + data if self.data else data
@@ -67,11 +66,11 @@ class ClusterSide:
             client.account()
 
     def has_step(self) -> bool:
-        """Does the next step with what the cluster sent; tells whether there may be another one."""
+        """Does the next step with the data from the cluster; returns whether there may be another one."""
         client = self.client
         exchange = client.exchange
         if exchange is None or exchange.state in WITH_ANSWER:
-            self.fail("an answer came to no request")
+            self.fail("there was an answer without a request")
             return False
         if exchange.response is None:
             return self.has_head(exchange)
@@ -80,8 +79,8 @@ class ClusterSide:
         return True
 
     def has_head(self, exchange: Exchange) -> bool:
-        """Takes the head of an answer, and all of it where it came in one piece; tells whether there may be
-        another step."""
+        """Reads the head of an answer, and all of it if it was received in one piece; returns whether there
+        may be another step."""
         data = self.data
         end = head_end(data)
         if not end:
@@ -106,14 +105,14 @@ class ClusterSide:
         return True
 
     def go_on(self, exchange: Exchange, response: Response, head: bytes) -> None:
-        """Passes on by itself what goes before an answer."""
+        """Passes on an interim answer."""
         if response.status == 101:
-            raise BadMessage("it goes on in another protocol, which nobody asked for")
+            raise BadMessage("it switches to a protocol that wasn't offered")
         if not exchange.was_continued or response.status != 100:
             self.client.stream.write(head)
 
     def take_piece(self, exchange: Exchange, response: Response, body: Body) -> None:
-        """Takes what came of the answer. That to calls is held back until their replies are written."""
+        """Reads a part of an answer. Answers to calls are held back until their replies are written."""
         count = body.take(self.data)
         exchange.answer += self.data[:count]
         self.data = self.data[count:]
@@ -132,13 +131,13 @@ class ClusterSide:
         body.kept.clear()
 
     def pass_on(self, exchange: Exchange) -> None:
-        """Passes on what came of the answer."""
+        """Passes on what was received of the answer."""
         exchange.has_begun = True
         answer, exchange.answer = exchange.answer, b""
         self.client.stream.write(answer)
 
     def finish(self, exchange: Exchange, response: Response, content: bytes) -> None:
-        """Writes what a whole answer says of calls, in steps if it says much."""
+        """Writes the replies of a complete answer, in steps if there are many."""
         recorded = exchange.recorded
         exchange.end_answer()
         if recorded is None:
@@ -158,7 +157,7 @@ class ClusterSide:
             self.work(proxy.judge.answers.answering(recorded, response.status, plain), exchange)
 
     def work(self, steps: Iterator[None], exchange: Exchange) -> None:
-        """Does what takes a while, in steps, and then goes on with the answer. Nothing more is taken
+        """Does work in steps, and then goes on with the answer. Nothing is read from the cluster
         meanwhile."""
         self.stream.pause_reading()
 
@@ -171,8 +170,8 @@ class ClusterSide:
     def discover_made_index(
         self, exchange: Exchange, making: IndexMakingRequest, response: Response, content: Optional[bytes]
     ) -> None:
-        """Has the index looked at that a request may have made; then its call and its reply are written, and
-        others go on."""
+        """Has the index inspected after the answer to a request that may have created it; then writes the
+        call and the reply, and others go on."""
         proxy = self.client.proxy
         assert proxy.discovery is not None
         discovery: IndexDiscovery = proxy.discovery
@@ -185,7 +184,7 @@ class ClusterSide:
         discovery.answered(exchange, go_on, True)
 
     def discover_index(self, exchange: Exchange) -> None:
-        """Has the index looked for, if it wasn't there and the request may have made it; then passes the
+        """Has the index looked for, if it didn't exist and the request may have created it; then passes the
         answer on."""
         discovery = self.client.proxy.discovery
         if discovery is None or exchange.request.method in READS:
@@ -200,50 +199,51 @@ class ClusterSide:
         self.deliver(exchange)
 
     def take_more(self) -> None:
-        """Reads again, unless the client is slow to take what was read."""
+        """Reads from the cluster again, unless the send buffer to the client is full."""
         if not self.client.stream.is_paused:
             self.stream.resume_reading()
 
     def deliver(self, exchange: Exchange) -> None:
-        """Passes on an answer, or the last of it, and goes on with the next request."""
+        """Passes on an answer, or the last part of it, and goes on with the next request."""
         client = self.client
         self.pass_on(exchange)
         if self.data:
-            self.fail("more than an answer came")
+            self.fail("there was data after the answer")
         elif exchange.state is ANSWERED and not self.stream.is_closing:
             client.answered()
         else:
-            # (the cluster is gone, or didn't want the rest of the request, and the client's next one can't be
-            # distinguished from it)
+            # (the cluster is gone, or didn't read the rest of the request, which can't be told from the next
+            # one)
             client.close()
         if client.held:
             client.account()
 
     def fail(self, why: str) -> None:
-        """Gives up: what was asked is lost, and the client is told, unless it has a part of an answer."""
+        """Gives up the exchange: its calls are lost, and the client gets status 502 unless a part of the
+        answer was passed on."""
         client = self.client
         client.give_up()
-        is_told = client.exchange is not None and not client.exchange.has_begun
+        can_report = client.exchange is not None and not client.exchange.has_begun
         client.exchange = None
-        client.close(refusal("502 Bad Gateway", why) if is_told else b"")
+        client.close(refusal("502 Bad Gateway", why) if can_report else b"")
 
     def pause_writing(self) -> None:
-        """Takes no more from the client while the cluster is slow to take it."""
+        """Called when the send buffer to the cluster is full: stops reading from the client."""
         self.client.is_cluster_full = True
         self.client.update_flow()
 
     def resume_writing(self) -> None:
-        """Takes from the client again."""
+        """Called when the send buffer to the cluster is empty: reads from the client again."""
         self.client.is_cluster_full = False
         self.client.update_flow()
 
     def ended(self) -> None:
-        """Hears that the cluster sends no more."""
+        """Called when the cluster sends no more."""
         self.stream.close()
 
     def connection_lost(self) -> None:
-        """Ends the client's connection too: with the end of an answer that ends so, or with word that there
-        is none."""
+        """Closes the connection of the client: after an answer that ends with its connection, or with status
+        502."""
         client = self.client
         exchange = client.exchange
         if client.stream.is_closing or exchange is not None and exchange.state in WITH_ANSWER:
@@ -257,6 +257,6 @@ class ClusterSide:
             assert exchange.response is not None
             self.finish(exchange, exchange.response, exchange.body.content())
         elif exchange is not None:
-            self.fail("the cluster closed the connection and gave no whole answer")
+            self.fail("the cluster closed the connection before the answer was complete")
         else:
             client.close()

@@ -1,5 +1,5 @@
-"""Connections to the cluster, made without waiting: each of its addresses is tried, until one takes the
-connection or time is up."""
+"""Non-blocking connections to the cluster: the addresses of a node are tried one by one, until one accepts or
+the time is over."""
 
 import contextlib
 import errno
@@ -11,18 +11,18 @@ from typing import Any, Callable, List, Tuple, Union
 from .loop import WRITE, Loop
 
 SECONDS = 5.0
-"""For how many seconds a connection is tried."""
+"""How many seconds a connection may take."""
 
 Address = Tuple[int, Any]
-"""A family of addresses, and one of them."""
+"""The address family and the address of a socket."""
 
 Made = Callable[[Union[socket.socket, OSError]], None]
-"""Takes a connection that was made, or the fault for which there is none."""
+"""Called with the connection, or with the error if there is none."""
 
 
 class Addresses:
-    """The addresses of a host. They are looked up at first, and again, by one thread at most, after none of
-    them took a connection."""
+    """The IP addresses of a host. They are looked up at the start, and again, by one thread at most, after
+    all of them failed."""
 
     def __init__(self, host: str, port: int) -> None:
         self._host = host
@@ -35,27 +35,27 @@ class Addresses:
         return list(dict.fromkeys((family, address) for family, _, _, _, address in found))
 
     def look_again(self) -> None:
-        """Looks the addresses up again, and doesn't wait for it."""
+        """Looks the addresses up again, without waiting for it."""
         if not self._is_looking:
             self._is_looking = True
             threading.Thread(target=self._renew, daemon=True).start()
 
     def _renew(self) -> None:
-        """Keeps what is found now."""
+        """Looks the addresses up, and keeps the result."""
         with contextlib.suppress(OSError):
             self.known = self._look()
         self._is_looking = False
 
 
 class Connecting:
-    """A connection that is being made. `cancel` gives it up; else `made` is called once."""
+    """A connection that is being made. `made` is called once, unless it is cancelled before."""
 
     def __init__(self, loop: Loop, addresses: Addresses, made: Made) -> None:
         self._loop = loop
         self._addresses = addresses
         self._left = list(addresses.known)
         self._made = made
-        # how many seconds each address has, and until when the one at hand is tried
+        # the timeout of each address in seconds, and when that of the current one is over
         self._each = SECONDS / max(1, len(self._left))
         self._end = 0.0
         self._fault = OSError(errno.EHOSTUNREACH, os.strerror(errno.EHOSTUNREACH))
@@ -65,8 +65,7 @@ class Connecting:
         self._try_next()
 
     def _try_next(self) -> None:
-        """Tries the addresses that are left, up to one for which the system says later whether it takes the
-        connection."""
+        """Tries the remaining addresses, until one of them takes time to connect."""
         while self._left:
             family, address = self._left.pop(0)
             self._end = self._loop.now + self._each
@@ -78,16 +77,16 @@ class Connecting:
                     self._loop.watch(self._socket, 0, WRITE, self._handle_events)
                     return
                 self._fault = OSError(fault, os.strerror(fault))
-            except OSError as told:
-                self._fault = told
+            except OSError as error:
+                self._fault = error
             self._drop()
         self._addresses.look_again()
-        self._tell(self._fault)
+        self._finish(self._fault)
 
     def _handle_events(self, events: int) -> None:
-        """Goes on where the system has made the connection, or found that it can't."""
+        """Called when the connection is made or has failed."""
         if self._socket is None:
-            # (it was given up in the same turn)
+            # (it was cancelled in the same turn)
             return
         fault = self._socket.getsockopt(socket.SOL_SOCKET, socket.SO_ERROR)
         self._loop.watch(self._socket, WRITE, 0, self._handle_events)
@@ -97,7 +96,7 @@ class Connecting:
             self._try_next()
         else:
             connection, self._socket = self._socket, None
-            self._tell(connection)
+            self._finish(connection)
 
     def _tick(self, now: float) -> None:
         """Goes on with the next address if one takes too long."""
@@ -106,21 +105,21 @@ class Connecting:
             self._fault = TimeoutError(errno.ETIMEDOUT, os.strerror(errno.ETIMEDOUT))
             self._try_next()
 
-    def _tell(self, made: Union[socket.socket, OSError]) -> None:
-        """Hands on what came of it."""
+    def _finish(self, made: Union[socket.socket, OSError]) -> None:
+        """Passes on the result."""
         self._is_over = True
         del self._loop.ticks[self._tick]
         self._loop.soon(lambda: self._made(made))
 
     def cancel(self) -> None:
-        """Gives it up."""
+        """Cancels the connection."""
         if not self._is_over:
             self._is_over = True
             del self._loop.ticks[self._tick]
             self._drop_watched()
 
     def _drop_watched(self) -> None:
-        """Closes the socket that is waited for."""
+        """Closes the socket that is being connected."""
         if self._socket is not None:
             self._loop.watch(self._socket, WRITE, 0, self._handle_events)
             self._drop()

@@ -1,4 +1,4 @@
-"""A request and its answer, as far as they have come."""
+"""An exchange: a request and its answer, and how far they were received and passed on."""
 
 import zlib
 from collections import deque
@@ -10,10 +10,10 @@ from casbench_recording.proxy.recording.recorded_requests import RecordedRequest
 from casbench_recording.proxy.routing.routes import Route
 
 SLICE = 65_536
-"""The most bytes that are taken from a packed content at once."""
+"""How many bytes of a compressed body are decompressed at a time."""
 
 MOST_PLAIN = 128 * 1024 * 1024
-"""The most bytes of a bulk request, unpacked. A cluster takes 100 MiB."""
+"""The maximum length of a bulk request in bytes, decompressed. A cluster accepts 100 MiB."""
 
 
 class ExchangeState(Enum):
@@ -27,35 +27,35 @@ class ExchangeState(Enum):
     """
 
     TAKING = "the request is received, and passed on as far as it can be"
-    HELD = "nothing more is received until what has to be done first is done, such as writing many calls"
+    HELD = "receiving pauses until other work is done, such as writing many calls"
     SENT = "the whole request was passed on"
     ANSWERED = "the whole answer was received, and is passed on when its replies are written"
-    ANSWERED_EARLY = "the same, and the request was not passed on as a whole"
+    ANSWERED_EARLY = "the same, before the whole request was passed on"
 
 
 TAKING, HELD, SENT = ExchangeState.TAKING, ExchangeState.HELD, ExchangeState.SENT
-"""The states that each exchange is asked for. An Enum takes long to find a member by its name."""
+"""These states have names of their own, since looking up a member of an Enum by its name is slow."""
 
 ANSWERED, ANSWERED_EARLY = ExchangeState.ANSWERED, ExchangeState.ANSWERED_EARLY
 WITH_ANSWER = (ANSWERED, ANSWERED_EARLY)
-"""The states in which the whole answer was received."""
+"""The states in which the complete answer was received."""
 
 
 class Exchange:
-    """A request and its answer. It ends when the answer was passed on."""
+    """A request and its answer. It is over when the answer was passed on."""
 
     state = TAKING
-    # what came of a request that is taken in pieces
+    # the received part of a request, if it is received in pieces
     coming: Optional["Coming"] = None
-    # the client was told to go on with its request
+    # whether the client was sent 100 Continue
     was_continued = False
     recorded: Optional[RecordedRequest] = None
-    # the answer, if it is taken in pieces
+    # the answer, if it is received in pieces
     response: Optional[Response] = None
     body: Optional[Body] = None
-    # what of the answer waits to be passed on
+    # the part of the answer that wasn't passed on yet
     answer: Union[bytes, bytearray] = b""
-    # how many bytes are kept of a head that is long
+    # the number of bytes kept for a long head
     weight = 0
     # whether a part of the answer was passed on
     has_begun = False
@@ -65,26 +65,27 @@ class Exchange:
         self.route = route
 
     def hold(self) -> None:
-        """Receives nothing more until `go_on`."""
+        """Stops receiving the request until `go_on`."""
         if self.state is TAKING:
             self.state = HELD
 
     def go_on(self) -> None:
-        """Receives again what is left of the request, unless it was passed on or answered meanwhile."""
+        """Receives the rest of the request, unless it was passed on or answered meanwhile."""
         if self.state is HELD:
             self.state = TAKING
 
     def send_all(self) -> None:
-        """The last of the request is passed on."""
+        """Called when the last part of the request is passed on."""
         self.state = ANSWERED if self.state is ANSWERED_EARLY else SENT
 
     def end_answer(self) -> None:
-        """The last of the answer was received."""
+        """Called when the last part of the answer was received."""
         self.state = ANSWERED if self.state is SENT else ANSWERED_EARLY
 
 
 class Coming:
-    """What came of a request and waits to be passed on: all of it, until it can be read, or nothing."""
+    """The part of a request that was received and not passed on yet: all of it until its body can be read, or
+    nothing."""
 
     def __init__(self, head: bytes, body: Body, is_read: bool) -> None:
         self.held = bytearray(head)
@@ -93,13 +94,13 @@ class Coming:
         self.is_read = body.is_kept = is_read
 
     def taken(self) -> bytes:
-        """Hands over what is held."""
+        """Returns what is held, and drops it."""
         held, self.held = bytes(self.held), bytearray()
         return held
 
 
 class Unpacking:
-    """A content that comes in pieces and may be packed."""
+    """Content that is received in pieces and may be compressed."""
 
     def __init__(self, encoding: bytes) -> None:
         self._decoder = decoder_of(encoding)
@@ -107,7 +108,7 @@ class Unpacking:
         self._length = 0
 
     def slices(self, content: bytes, is_last: bool) -> Iterator[Optional[bytes]]:
-        """What a piece of the content says, some of it at a time; None at what can't be determined."""
+        """Returns the plain content of a piece, in slices; None if it can't be determined."""
         if not self._is_known:
             yield None
         elif self._decoder is None:
@@ -118,7 +119,7 @@ class Unpacking:
     def _unpacked(
         self, decoder: "zlib._Decompress", content: bytes, is_last: bool
     ) -> Iterator[Optional[bytes]]:
-        """The same of a packed one."""
+        """The same for a compressed piece."""
         plain = bytes(SLICE)
         while not decoder.eof and (content or len(plain) == SLICE):
             try:
@@ -134,25 +135,25 @@ class Unpacking:
 
 
 class ComingInPieces(Coming):
-    """What came of a bulk request: each piece is passed on when the calls are written of all items that begin
-    in it."""
+    """The part of a bulk request that was received and not passed on yet: a piece is passed on when the calls
+    are written of all items that start in it."""
 
     def __init__(self, head: bytes, body: Body, encoding: bytes) -> None:
         super().__init__(head, body, True)
         self.unpacking = Unpacking(encoding)
-        # how many bytes of the plain content came, and the pieces that wait, each with how many had come at
-        # its end
+        # how many bytes of the plain content were received; and the waiting pieces, each with its length and
+        # that number at its end
         self.length = 0
         self._waiting: Deque[Tuple[int, int]] = deque()
 
     def add(self, raw: bytes) -> None:
-        """Takes a piece, whose content was read."""
+        """Adds a piece whose content was read."""
         self.held += raw
         before = self._waiting.pop()[0] if self._waiting and self._waiting[-1][0] < SLICE else 0
         self._waiting.append((before + len(raw), self.length))
 
     def ready(self, read: int, is_all: bool) -> bytes:
-        """Hands over what may be passed on, if so many bytes of the content were read; or all."""
+        """Returns what may be passed on after this many bytes of the content were read, or all of it."""
         if is_all:
             self._waiting.clear()
             return self.taken()

@@ -15,7 +15,7 @@ import time
 from collections import deque
 from typing import Any, Callable, Deque, Dict, List, Protocol, Union
 
-from casbench_recording.console import tell_fault, tell_line
+from casbench_recording.console import report_fault, report_line
 
 PIECE = 65_536
 """The most bytes that are read at once. For larger pieces memory would be requested from the system each
@@ -64,21 +64,21 @@ class Loop:
 
     def __init__(self) -> None:
         self.is_over = self._has_signals = False
-        # the time of this turn
+        # the current time
         self.now = time.monotonic()
-        # how many bytes wait to be sent, on all connections together
+        # how many bytes wait to be sent on all connections
         self.waiting = 0
-        # what is called at each tick, with the time
+        # called at each tick with the time
         self.ticks: Dict[Callable[[float], None], None] = {self._end_lingering: None}
         self._selector = selectors.DefaultSelector()
         self._calls: Deque[Callable[[], None]] = deque()
-        # what is called in the next turn
+        # called in the next turn
         self._next: Deque[Callable[[], None]] = deque()
         self._lingering: "Deque[Stream]" = deque()
-        # whether the ticks are due, and whether there are no more of them
+        # whether a tick is due, and whether the loop is closed
         self._is_tick_due = False
         self._has_closed = threading.Event()
-        # what is called when a connection was closed
+        # called when a connection was closed
         self._waiting_for_room: List[Callable[[], None]] = []
         self._woken, self._waker = socket.socketpair()
         for it in (self._woken, self._waker):
@@ -122,7 +122,7 @@ class Loop:
             try:
                 self._calls.popleft()()
             except Exception:
-                tell_fault()
+                report_fault()
 
     def close(self) -> None:
         """Makes the calls that are due, and releases the resources of the loop."""
@@ -250,14 +250,14 @@ class Listener:
             connection, _ = self.socket.accept()
         except OSError as fault:
             if fault.errno in NO_ROOM:
-                tell_line(f"no more connections are taken until one is closed: {fault.strerror}")
+                report_line(f"no more connections are accepted until one is closed: {fault.strerror}")
                 self._watch(0)
                 self._loop.wait_for_room(lambda: self._watch(READ))
             return
         try:
             self._accepted(connection)
         except Exception:
-            tell_fault()
+            report_fault()
             connection.close()
 
     def _watch(self, events: int) -> None:
@@ -310,7 +310,7 @@ class Stream:
             if events & self._events & READ:
                 self._receive()
         except Exception:
-            tell_fault()
+            report_fault()
             self.abort()
 
     def _receive(self) -> None:

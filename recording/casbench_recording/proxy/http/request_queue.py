@@ -1,4 +1,4 @@
-"""Requests that are passed on one after the other: each has its turn when the one before it is over."""
+"""A queue of requests that are passed on one at a time."""
 
 from collections import deque
 from typing import Callable, Deque
@@ -9,7 +9,7 @@ GoOn = Callable[[], None]
 
 
 class RequestQueue:
-    """Who waits for a turn. Whoever has it ends it, once."""
+    """A queue. The request whose turn it is ends its turn, once."""
 
     def __init__(self, loop: Loop) -> None:
         self._loop = loop
@@ -18,21 +18,21 @@ class RequestQueue:
 
     @property
     def is_over(self) -> bool:
-        """Whether nobody has the turn, and nobody waits for it."""
+        """Whether the queue is empty, and no request has its turn."""
         return not self._is_taken and not self._waiting
 
     def wait_for(self, go_on: GoOn) -> None:
-        """Calls it when it has its turn."""
+        """Calls `go_on` when it is its turn."""
         self._waiting.append(go_on)
         self._give()
 
     def end(self) -> None:
-        """Ends the turn at hand."""
+        """Ends the current turn."""
         self._is_taken = False
         self._give()
 
     def _give(self) -> None:
-        """Gives the turn to who waits longest."""
+        """Starts the next turn."""
         if self._waiting and not self._is_taken:
             self._is_taken = True
             self._loop.soon(self._waiting.popleft())

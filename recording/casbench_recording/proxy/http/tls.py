@@ -1,4 +1,4 @@
-"""TLS on a connection of the loop."""
+"""TLS for the connections of the loop."""
 
 import socket
 import ssl
@@ -11,11 +11,10 @@ NO_RENEGOTIATION = getattr(ssl, "OP_NO_RENEGOTIATION", 0)
 
 
 class TlsStream:
-    """An encrypted connection. For its user it is a stream, and it is the user of the stream of encrypted
-    bytes.
+    """An encrypted connection. Its user uses it as a stream, and it uses the stream with the encrypted data.
 
-    Nothing is written before it is ready. `tell_ready` is called once: with None when it is, or with the
-    error because of which it never will be.
+    Nothing is written before it is ready. `on_ready` is called once: with None when it is ready, or with
+    the error if it never will be.
     """
 
     def __init__(
@@ -25,12 +24,12 @@ class TlsStream:
         user: StreamUser,
         tls: ssl.SSLContext,
         host: Optional[str],
-        tell_ready: Callable[[Optional[OSError]], None],
+        on_ready: Callable[[Optional[OSError]], None],
     ) -> None:
-        # (with a host it is the side of a client, without one that of a server)
+        # (with a host it is a client, without one a server)
         self.user = user
-        self._tell_ready = tell_ready
-        self._is_ready = self._was_told = False
+        self._on_ready = on_ready
+        self._is_ready = self._has_reported = False
         # whether the other side sent close_notify; the end of the connection alone doesn't count
         self.is_at_end = False
         self._incoming, self._outgoing = ssl.MemoryBIO(), ssl.MemoryBIO()
@@ -42,7 +41,7 @@ class TlsStream:
 
     @property
     def is_closing(self) -> bool:
-        """Whether it is closed, or will be when all is sent."""
+        """Whether it is closed, or will be when everything is sent."""
         return self._stream.is_closing
 
     @property
@@ -58,25 +57,25 @@ class TlsStream:
         except ssl.SSLWantReadError:
             pass
         except OSError as fault:
-            self._tell(fault)
+            self._report_ready(fault)
             self._send()
             self._stream.close()
         self._send()
         if self._is_ready:
-            self._tell(None)
+            self._report_ready(None)
 
-    def _tell(self, fault: Optional[OSError]) -> None:
-        """Reports, once, that it is ready, or why it never will be."""
-        if not self._was_told:
-            self._was_told = True
-            self._tell_ready(fault)
+    def _report_ready(self, fault: Optional[OSError]) -> None:
+        """Calls `on_ready`, once."""
+        if not self._has_reported:
+            self._has_reported = True
+            self._on_ready(fault)
 
     def _send(self) -> None:
-        """Sends the encrypted bytes that are there."""
+        """Sends the encrypted data."""
         self._stream.write(self._outgoing.read())
 
     def received(self, data: bytes) -> None:
-        """Takes encrypted bytes, and hands on the decrypted ones."""
+        """Decrypts data, and passes it on."""
         self._incoming.write(data)
         if not self._is_ready:
             self._shake_hands()
@@ -146,7 +145,7 @@ class TlsStream:
 
     def connection_lost(self) -> None:
         """Called when the connection is closed."""
-        self._tell(ConnectionResetError("the connection was closed before it was encrypted"))
+        self._report_ready(ConnectionResetError("the connection was closed before it was encrypted"))
         if self._is_ready:
             self.user.connection_lost()
         # (the user refers to this stream, and is not called any more)

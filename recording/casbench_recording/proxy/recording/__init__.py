@@ -1,2 +1,2 @@
-"""What is written for a request and its answer: calls, replies, and the end of a recording that can't go
+"""What is recorded for a request and its answer: calls, replies, and the end of a recording that can't go
 on."""

@@ -1,5 +1,4 @@
-"""What an answer says of the calls of its request. The lines of their endings are written before the answer
-is passed on."""
+"""Records what answers say about the calls of their requests, before the answers are passed on."""
 
 from typing import Any, Iterator, List, Optional, Sequence, Union
 
@@ -37,33 +36,32 @@ from .reply_bodies import item_status, listed, missing_by_length, readable, true
 from .request_recorder import RequestRecorder
 
 MOST_AT_ONCE = 500
-"""How many items of an answer are looked at before others have their turn."""
+"""How many items of an answer are processed before other events are handled."""
 
 OF_SEVERAL = (BULK, RouteKind.MULTIPLE_GET, SWEEP)
-"""Requests on several documents, or on ones that nobody names."""
+"""Requests on several documents, or on unnamed ones."""
 
 RESULTS = {201: "created", 200: "updated"}
-"""The result of a write of a value that was performed, by its status."""
+"""The result of a performed write of a value, by the status."""
 
 PERFORMED = {"created", "updated", "deleted", "not_found"}
-"""The results of writes that were performed."""
+"""The results of performed writes."""
 
 
 class AnswerRecorder:
-    """Writes what answers say."""
+    """Records answers."""
 
     def __init__(self, documents: JudgedDocuments, asking: RequestRecorder) -> None:
         self._documents = documents
         self._writer = documents.writer
         self._asking = asking
-        # the endings that are written next, together, or None if each is written at once
+        # the endings that are collected, or None if each is written at once
         self._endings: Optional[List[Ending]] = None
 
     def answered(
         self, recorded: RecordedRequest, status: int, content: Optional[bytes], length: Optional[int]
     ) -> None:
-        """Writes what an answer says, after all of it was received. The content is None where it can't be
-        read."""
+        """Records a complete answer. The content is None if it can't be read."""
         if recorded.kind in OF_SEVERAL:
             for _ in self.answering(recorded, status, content):
                 pass
@@ -85,8 +83,8 @@ class AnswerRecorder:
             self._writer.end_by(fault)
 
     def answering(self, recorded: RecordedRequest, status: int, content: Optional[bytes]) -> Iterator[None]:
-        """The same of an answer to a request on several documents, in steps, between which others may have
-        their turn."""
+        """The same for a request on several documents, in steps, between which other events may be
+        handled."""
         try:
             if not self._writer.has_ended:
                 yield from self._record_answer_to_several(recorded, status, content)
@@ -94,8 +92,8 @@ class AnswerRecorder:
             self._writer.end_by(fault)
 
     def lost(self, recorded: RecordedRequest) -> None:
-        """Writes that no whole answer came. A write without an id, or a request on unnamed documents, stays
-        open for good."""
+        """Records that no complete answer came. A write without an id, or a request on unnamed documents,
+        stays open for good."""
         if self._writer.has_ended:
             return
         lost: List[Call] = []
@@ -111,7 +109,7 @@ class AnswerRecorder:
     def _record_answer_to_several(
         self, recorded: RecordedRequest, status: int, content: Optional[bytes]
     ) -> Iterator[None]:
-        """Writes what an answer says to a request on several documents."""
+        """Records an answer to a request on several documents."""
         is_long = content is not None and len(content) > MOST_READ
         body = object_of(content) if not is_long else None
         if recorded.kind is SWEEP:
@@ -140,8 +138,7 @@ class AnswerRecorder:
     def _answered_items(
         self, parts: Sequence[Optional[RequestedCall]], items: Iterator[Any], member: str
     ) -> Iterator[None]:
-        """Writes what an answer says of each item: of one that doesn't stand in its place nothing can be
-        told."""
+        """Records the items of an answer. If an item isn't at its place, its call is lost."""
         for at in range(0, len(parts), MOST_AT_ONCE):
             if at:
                 yield
@@ -159,18 +156,18 @@ class AnswerRecorder:
             self._documents.rest(some)
 
     def _answered_item(self, part: RequestedCall, item: Any, member: str) -> None:
-        """Writes what an answer says of an item."""
-        told = item
+        """Records an item of an answer."""
+        shown = item
         if member == "items":
-            told = next(iter(item.values())) if isinstance(item, dict) and len(item) == 1 else None
-        is_its = isinstance(told, dict) and (
-            not part.id or "_id" in told and (told["_id"] == part.id or part.op != "get")
+            shown = next(iter(item.values())) if isinstance(item, dict) and len(item) == 1 else None
+        is_its = isinstance(shown, dict) and (
+            not part.id or "_id" in shown and (shown["_id"] == part.id or part.op != "get")
         )
-        status = item_status(member, told) if is_its else 0
-        self._answered(part, status, told if status else None)
+        status = item_status(member, shown) if is_its else 0
+        self._answered(part, status, shown if status else None)
 
     def _answered(self, part: RequestedCall, status: int, body: Optional[JsonObject]) -> None:
-        """Writes what the reply to a call says."""
+        """Records the reply to a call."""
         shape = self._documents.shape
         if body is not None and shape is not None and body.get("_index", shape.name) != shape.name:
             body = None
@@ -178,9 +175,9 @@ class AnswerRecorder:
             self._answered_new(part, status, body)
         elif part.call is not None and (document := part.document) is not None:
             if body is not None and body.get("_id", part.id) != part.id:
-                self._documents.note_unknown_write(part.id, "an answer told another id")
+                self._documents.note_unknown_write(part.id, "an answer had another id")
                 self._documents.note_unknown_write(
-                    str(body["_id"]), "an answer told this id, and another one was asked for"
+                    str(body["_id"]), "an answer to a request for another id had this one"
                 )
                 body = None
             if body is None:
@@ -192,8 +189,8 @@ class AnswerRecorder:
     def _reply(
         self, part: RequestedCall, document: Document, status: int, body: JsonObject, pair: Optional[Pair]
     ) -> Union[Reply, Loss]:
-        """The status and the text of the body that are written for a reply which shows this pair, or what is
-        known without them."""
+        """Returns the status and the body to record for a reply with this pair, or what is known without
+        them."""
         text: Optional[str] = None
         if part.op == "get":
             if status == 200 and pair is not None and body.get("found") is True:
@@ -223,9 +220,10 @@ class AnswerRecorder:
     def _number_shown(
         self, part: RequestedCall, document: Document, pair: Pair, source: Any
     ) -> Optional[int]:
-        """The number of the version that a get found, with this source; None if it can't be determined."""
+        """Returns the number of the version that a get found, with this source; None if it can't be
+        determined."""
         if isinstance(source, Digest):
-            # (a reply of the usual form has it there)
+            # (`read_reply` has replaced the source)
             return document.number_shown(pair, source, part.shows_all)
         is_object = isinstance(source, dict)
         return document.number_shown(
@@ -233,27 +231,30 @@ class AnswerRecorder:
         )
 
     def _is_settled(self, part: RequestedCall, status: int, body: JsonObject) -> bool:
-        """Whether a reply settles that the document wasn't there before. One that shows that it was ends its
-        judgement."""
+        """Returns whether a reply shows that the document didn't exist before the recording. If it shows that
+        it existed, the document isn't judged any more."""
         document = part.document
         assert document is not None
-        told = (status, body.get("result"), body.get("found"))
-        was_absent = told in ((201, "created", None), (404, "not_found", None), (404, None, False))
+        shown = (status, body.get("result"), body.get("found"))
+        was_absent = shown in ((201, "created", None), (404, "not_found", None), (404, None, False))
         is_conflict = part.op == "create" and status == 409
-        was_there = is_conflict or told in ((200, "updated", None), (200, "deleted", None), (200, None, True))
+        was_there = is_conflict or shown in (
+            (200, "updated", None),
+            (200, "deleted", None),
+            (200, None, True),
+        )
         if was_absent and document.deletes == int(part.op == "delete"):
             document.state = DocumentState.JUDGED
             return True
         if was_there and document.writes == int(part.op in ("index", "create")):
-            self._documents.stop_judging(document.id, "it was there before")
+            self._documents.stop_judging(document.id, "it existed before")
         return False
 
     def _answered_new(self, part: RequestedCall, status: int, body: Optional[JsonObject]) -> None:
-        """Writes the call and the reply of a write whose id the answer tells. Nobody asked for that document
-        before, or it isn't judged.
+        """Records the call and the reply of a write whose id comes with the answer, unless there was an
+        earlier request for that document.
 
-        The call's line stands late. That is right: the document has no other call between the line and where
-        it belongs.
+        The line of the call is late. That is correct: the document has no other call before it.
         """
         id, pair = (body or {}).get("_id"), pair_of(body)
         if is_unperformed(status, body):
@@ -270,12 +271,12 @@ class AnswerRecorder:
         documents = self._documents
         documents.unnamed -= 1
         if documents.shape is None or documents.is_known(id) or not is_id(id) or documents.only is not None:
-            documents.note_unknown_write(id, "it was asked for before an answer told its id")
+            documents.note_unknown_write(id, "there was a request for it before an answer had its id")
             return
         part.id = id
         documents.recent.add(Document(id, documents.shape.shard_of(id), DocumentState.JUDGED))
         if documents.sweeps != part.sweeps or documents.open_sweeps:
-            documents.stop_judging(id, "it was made while a request changed documents that nobody named")
+            documents.stop_judging(id, "it was created while a request changed unnamed documents")
         elif self._asking.write_part(part):
             self._answered(part, status, body)
 
@@ -288,7 +289,7 @@ class AnswerRecorder:
         body: JsonObject,
         pair: Optional[Pair],
     ) -> None:
-        """Ends the call of a part, on this document, by a reply or without one."""
+        """Ends the call of a part by a reply or without one."""
         call = ending_call(part)
         if call is None:
             return
@@ -302,14 +303,14 @@ class AnswerRecorder:
             self._endings.append((call, ending))
 
     def _flush(self) -> None:
-        """Writes the endings that wait; those that follow are written at once."""
+        """Writes the endings that were collected; those that follow are written at once."""
         endings, self._endings = self._endings or [], None
         self._writer.write_endings(endings)
 
 
 def ending_call(part: RequestedCall) -> Optional[Call]:
-    """The call of a part, which ends now; None if it has none, or its ending was written when its document
-    was judged no longer."""
+    """Returns the call of a part, which ends now; None if it has none, or if it was lost when its document
+    stopped being judged."""
     call, document = part.call, part.document
     if call is None or document is None:
         return None
@@ -319,11 +320,11 @@ def ending_call(part: RequestedCall) -> Optional[Call]:
 
 
 def is_void(part: RequestedCall, status: int, body: JsonObject, pair: Optional[Pair]) -> bool:
-    """Whether a reply proves that a write was not performed, at no attempt.
+    """Returns whether a reply proves that a write was not performed, at any attempt.
 
-    An update is tried by the primary's node, which may have performed an earlier attempt and then finds
-    nothing to change, or, after a delete, no document. If no other write was under way neither can be: what
-    was acknowledged before is what it found.
+    An update is tried by the primary's node. It may have performed an earlier attempt, and then find nothing
+    to change, or, after a delete, no document. If no other write was open, that can't be: it found what was
+    acknowledged before.
     """
     if not isinstance(part, RequestedUpdate):
         return is_unperformed(status, body)
@@ -339,7 +340,7 @@ def is_void(part: RequestedCall, status: int, body: JsonObject, pair: Optional[P
 def note_write_ending(
     part: RequestedCall, ending: Union[Reply, Loss], status: int, body: JsonObject, pair: Optional[Pair]
 ) -> None:
-    """Heeds what the ending of a write, and the reply, say of whether it was performed."""
+    """Notes what the ending of a write, and its reply, say of whether it was performed."""
     document = part.document
     assert document is not None
     if pair is not None and not isinstance(ending, Loss) and body.get("result") in PERFORMED:

@@ -1,6 +1,6 @@
-"""The items of bulk requests, as they come, and those of the answers to them, one by one.
+"""The items of bulk requests, as they are received, and those of long answers, one by one.
 
-A bulk request may be long. Nothing of it is kept but the item at hand.
+A bulk request may be long. Only the current item of it is kept.
 """
 
 import json
@@ -11,10 +11,10 @@ from casbench_recording.history.format import JsonObject
 from casbench_recording.proxy.json_bodies import action_of, whole_number
 
 LONGEST_ACTION = 65_536
-"""The most bytes of the line of an action."""
+"""The maximum length of the line of an action in bytes."""
 
 UNREADABLE = "a bulk request with an action that can't be read"
-"""Why an item isn't recorded whose action isn't one object in an object: what it writes is unknown."""
+"""Why an item isn't recorded whose action isn't an object with one object: what it writes is unknown."""
 
 
 class UnknownWrites(Exception):
@@ -22,8 +22,8 @@ class UnknownWrites(Exception):
 
 
 class BulkItem:
-    """An item: what it does, the words of its action, and its source, or None if it has none or one that is
-    too long."""
+    """An item: its operation, the parameters of its action, and its source, or None if it has none or one
+    that is too long."""
 
     __slots__ = ("op", "parameters", "source")
 
@@ -34,23 +34,24 @@ class BulkItem:
 
 
 class BulkItems:
-    """The items of a bulk request, whose content is handed in as it comes."""
+    """The items of a bulk request, whose content is fed as it is received."""
 
     def __init__(self, longest: int) -> None:
-        # the most bytes of a source that is read
+        # the maximum length of a source that is read
         self._longest = longest
-        # what came of the line at hand, and whether the rest of it is passed over
+        # the received part of the current line, and whether its rest is skipped
         self._line = bytearray()
         self._skips = False
-        # the item whose source isn't there yet
+        # the item whose source wasn't received yet
         self._begun: Optional[BulkItem] = None
-        # how many bytes came before that line, or of it if they are passed over
+        # the number of bytes before that line, or skipped of it
         self._taken = 0
-        # up to where all items were given
+        # the position up to which all items were returned
         self.end = 0
 
     def take(self, content: bytes, is_last: bool) -> List[BulkItem]:
-        """The items that are whole now. Raises Untellable where one can't be read."""
+        """Feeds content; returns the items that are complete now. Raises UnknownWrites if one can't be
+        read."""
         items: List[BulkItem] = []
         *lines, rest = content.split(b"\n")
         if lines and self._line:
@@ -73,8 +74,7 @@ class BulkItems:
         return items
 
     def _take_piece(self, piece: bytes, items: List[BulkItem]) -> None:
-        """Takes a piece of a line that hasn't ended. An item whose source is too long is given before the end
-        of it."""
+        """Adds a part of a line. An item whose source is too long is returned before the end of it."""
         if self._skips:
             self._taken += len(piece)
         else:
@@ -88,7 +88,7 @@ class BulkItems:
                 self._line.clear()
 
     def _take_line(self, line: bytes, items: List[BulkItem]) -> None:
-        """Takes a line that ended: the source of an item, or the next action."""
+        """Processes a complete line: the source of an item, or the next action."""
         item = self._begun
         if self._skips:
             self._skips = False
@@ -103,7 +103,7 @@ class BulkItems:
                 self._begin(line, items)
 
     def _begin(self, line: bytes, items: List[BulkItem]) -> None:
-        """Takes an action, which is the whole of an item that has no source."""
+        """Processes an action, which is the whole item if it has no source."""
         action = action_of(line)
         if action is None or len(action) != 1:
             raise UnknownWrites(UNREADABLE)
@@ -118,27 +118,26 @@ class BulkItems:
 
 
 def check_action(line: Sequence[int]) -> None:
-    """Refuses the line of an action that is too long."""
+    """Raises UnknownWrites if the line of an action is too long."""
     if len(line) > LONGEST_ACTION:
         raise UnknownWrites("a bulk request with an action that is too long")
 
 
 START = re.compile(r'\{(?:"(?:took|ingest_took|errors)":(?:[0-9]+|true|false),)*"items":\[')
-"""How the answer to a bulk request begins, in the form that clusters usually give it."""
+"""Matches the usual start of the answer to a bulk request."""
 
 LONGEST_ITEM = 65_536
-"""The most letters of an item of a long answer that is sure to be read."""
+"""The maximum length of an item of a long answer that is certainly read."""
 
 WINDOW = 4 * LONGEST_ITEM
-"""The most letters of a long answer that are looked at together, so of which an item that isn't read takes
-memory."""
+"""How much of a long answer is parsed at a time, which limits the memory for an unreadable item."""
 
 read_next = json.JSONDecoder(parse_int=whole_number).raw_decode
 
 
 def items_of_long(content: bytes) -> Iterator[Any]:
-    """The items of an answer that is too long to be read at once, if it is of the usual form and ASCII, and
-    no item is too long. Raises ValueError at what can't be read."""
+    """Yields the items of an answer that is too long to be parsed at once, if it has the usual form, is
+    ASCII, and no item is too long. Raises ValueError otherwise."""
     text = content.decode("ascii")
     start = START.match(text)
     if start is None:

@@ -1,8 +1,8 @@
-"""Replies to calls in the form that clusters usually give them, read without reading all of their JSON.
+"""Reads replies in the usual form of a cluster without parsing all of their JSON.
 
-What is read here has the same members that count, with the same values, as the JSON reader would find: the
-pattern spells the whole reply, with no member twice and no text in which anything is escaped, but for a
-source; and that is read by the JSON reader, unless it was read before. Anything else isn't read here.
+The result has the same relevant members, with the same values, as the JSON parser returns: the patterns match
+the whole reply, without duplicate members or escapes. Only the source is parsed, unless it was parsed before.
+Replies in any other form aren't read here.
 """
 
 import re
@@ -21,35 +21,35 @@ WRITTEN = re.compile(
     START + rb',"_version":' + COUNT + rb',"result":"(created|updated|deleted|not_found)",'
     rb'(?:"forced_refresh":(?:true|false),)?' + SHARDS + rb"," + PAIR + rb"\}"
 )
-"""The reply to a write that was performed."""
+"""Matches the reply to a performed write."""
 
 FOUND = re.compile(START + rb',"_version":' + COUNT + rb"," + PAIR + rb',"found":true,"_source":')
-"""The reply to a get that found a version, up to its source; behind that one brace is left."""
+"""Matches the reply to a get that found a version, up to its source, after which there is one brace."""
 
 MISSING = re.compile(START + rb',"found":false\}')
-"""The reply to a get that found nothing."""
+"""Matches the reply to a get that found nothing."""
 
 
 def read_reply(op: str, status: int, content: Optional[bytes]) -> Optional[JsonObject]:
-    """The members that count of a reply to a call, or None where it isn't of the usual form.
-
-    In the place of a source its digest stands.
-    """
+    """Returns the relevant members of a reply, with the digest of the source in its place; None if it hasn't
+    the usual form."""
     if content is None:
         return None
     if op != "get":
-        told = WRITTEN.fullmatch(content)
-        return written(told) if told is not None else None
+        match = WRITTEN.fullmatch(content)
+        return written(match) if match is not None else None
     if status == 200:
-        told = FOUND.match(content)
-        return found(told, content) if told is not None else None
-    told = MISSING.fullmatch(content)
-    return {"_index": told[1].decode(), "_id": told[2].decode(), "found": False} if told is not None else None
+        match = FOUND.match(content)
+        return found(match, content) if match is not None else None
+    match = MISSING.fullmatch(content)
+    return (
+        {"_index": match[1].decode(), "_id": match[2].decode(), "found": False} if match is not None else None
+    )
 
 
-def written(told: "re.Match[bytes]") -> JsonObject:
-    """What a write's reply says."""
-    index, id, result, seq, term = told.groups()
+def written(match: "re.Match[bytes]") -> JsonObject:
+    """Returns the members of the reply to a write."""
+    index, id, result, seq, term = match.groups()
     return {
         "_index": index.decode(),
         "_id": id.decode(),
@@ -59,12 +59,12 @@ def written(told: "re.Match[bytes]") -> JsonObject:
     }
 
 
-def found(told: "re.Match[bytes]", content: bytes) -> Optional[JsonObject]:
-    """What the reply says of a get that found a version."""
-    digest = digest_of_text(content[told.end() : -1]) if content.endswith(b"}") else None
+def found(match: "re.Match[bytes]", content: bytes) -> Optional[JsonObject]:
+    """Returns the members of the reply to a get that found a version."""
+    digest = digest_of_text(content[match.end() : -1]) if content.endswith(b"}") else None
     if digest is None:
         return None
-    index, id, seq, term = told.groups()
+    index, id, seq, term = match.groups()
     shown = {"_index": index.decode(), "_id": id.decode(), "found": True, "_source": digest}
     shown["_seq_no"], shown["_primary_term"] = int(seq), int(term)
     return shown

@@ -1,5 +1,5 @@
-"""The lines of a recording that watches, and its end: at its time, or before it, where what is written can't
-be determined any more."""
+"""Writes the lines of the proxy's recording, and ends it: at its time, or early if it can't be determined
+what is written."""
 
 from typing import Callable, Dict, List, Sequence, Union
 
@@ -15,23 +15,24 @@ from .recorded_requests import RequestedCall
 
 
 class HistoryWriter:
-    """The history, or one for each shard, or one without end, and the list beside it. One thread uses it."""
+    """The history, or one for each shard, or a recording in parts, and the list of unjudged documents. One
+    thread uses it."""
 
     def __init__(self, history: Histories, unjudged: UnjudgedList) -> None:
         self.history = history
         self.unjudged = unjudged
         self.has_ended = False
-        # is called when the recording, or the history of a shard, ends before its time, with the reason
+        # called with the reason when the recording, or the history of a shard, ends early
         self.on_ended: Callable[[str], None] = lambda why: None
-        # has a document judged no longer, for a reason
+        # called with the id and the reason when a document can't be recorded any more
         self.on_too_many_lost: Callable[[str, str], None] = lambda id, why: None
-        # of the documents that moved to another part, with the calls that are written, what that begins with
+        # the documents that moved to another part with the current calls, and what they start with there
         self._moved: Dict[str, Beginning] = {}
         if isinstance(history, Continuing):
             history.on_move = self._moved.__setitem__
 
     def end(self, why: str) -> None:
-        """Ends the recording before its time: all calls that are open are lost, and no more are written."""
+        """Ends the recording early: all open calls are lost, and no more are written."""
         if not self.has_ended:
             self.has_ended = True
             self._ends(why)
@@ -43,9 +44,12 @@ class HistoryWriter:
         self._end_histories()
 
     def end_by(self, fault: Exception) -> None:
-        """Ends the recording: the application goes on, and nothing stands in the history behind what wasn't
-        understood."""
-        self.end(str(fault) if isinstance(fault, UnknownWrites) else f"a fault of the recorder: {fault!r}")
+        """Ends the recording because of this exception; requests are still passed on."""
+        self.end(
+            str(fault)
+            if isinstance(fault, UnknownWrites)
+            else f"an internal error of the recorder: {fault!r}"
+        )
 
     def _end_histories(self) -> None:
         """Ends each history."""
@@ -56,27 +60,28 @@ class HistoryWriter:
                 self._ends(str(fault))
 
     def end_part(self, history: CallWriter, why: str) -> None:
-        """Ends the history of a shard, or the one of all."""
+        """Ends the history of a shard, or the only one."""
         self.has_ended = self.has_ended or not isinstance(self.history, Parts)
         if why not in self.unjudged.ended:
             self._ends(why)
         history.end()
 
     def _ends(self, why: str) -> None:
-        """Reports the reason for which a history ends before its time."""
+        """Reports why a history ends early."""
         self.unjudged.ends(why)
         self.on_ended(why)
 
     def write_calls(self, parts: Sequence[RequestedCall]) -> None:
-        """Writes the lines of calls, those of one shard together. A history that is full ends, and with it
-        what is open."""
+        """Writes the lines of calls, those of one shard together. A full history ends, and its open calls are
+        lost."""
         shards = {it.operation.shard for it in parts}
         for shard in shards:
             its = parts if len(shards) == 1 else [it for it in parts if it.operation.shard == shard]
             self.write_calls_of(self.history.of_shard(shard), its)
 
     def write_calls_of(self, history: CallWriter, parts: Sequence[RequestedCall]) -> None:
-        """Writes the lines of calls to a history. A document that it can't go on with is judged no longer."""
+        """Writes the lines of calls to a history. A document that can't be recorded any more isn't judged any
+        more."""
         while parts and not self.has_ended:
             try:
                 calls = history.call_all([it.operation for it in parts])
@@ -92,7 +97,7 @@ class HistoryWriter:
             return
 
     def write_call(self, history: CallWriter, part: RequestedCall) -> None:
-        """The same of one call, in fewer steps."""
+        """The same for a single call, which is faster."""
         if not self.has_ended:
             try:
                 part.call = call = history.call_one(part.operation)
@@ -107,7 +112,7 @@ class HistoryWriter:
     def _left(
         self, history: CallWriter, parts: Sequence[RequestedCall], fault: Exception
     ) -> List[RequestedCall]:
-        """The parts whose lines can still be written after this fault: none if the history ended."""
+        """Handles an error; returns the parts whose lines can still be written: none if the history ended."""
         if isinstance(fault, TooManyLost):
             self.on_too_many_lost(fault.id, str(fault))
             return [it for it in parts if it.id != fault.id]
@@ -115,7 +120,7 @@ class HistoryWriter:
         return []
 
     def _go_on(self, parts: Sequence[RequestedCall]) -> None:
-        """Has the documents that begin another part forget what that has nothing of."""
+        """Has documents that moved to another part forget what isn't in it."""
         for document in {
             it.document for it in parts if it.document is not None and it.document.id in self._moved
         }:
@@ -123,7 +128,7 @@ class HistoryWriter:
         self._moved.clear()
 
     def write_ending(self, call: Call, ending: Union[Reply, Loss]) -> None:
-        """Writes the ending of a call. If the history ended in the meantime the call is lost by that."""
+        """Writes the ending of a call. If the history ended meanwhile, the call is lost."""
         try:
             call.history.end_one(call, ending)
         except Ended:

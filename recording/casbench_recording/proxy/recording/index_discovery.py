@@ -1,11 +1,11 @@
-"""The time in which the index isn't there yet: it is looked for after each write that may have made it.
+"""Discovers an index that doesn't exist yet: it is looked for after each write that may have created it.
 
-Requests for the index take turns. One that may make it is passed on alone: when it was answered, and the
-index looked at, its call and its reply are written, and the others go on. Who asks for another index waits
-for nobody.
+Requests for the index are queued. One that may create it is passed on alone: after its answer the index is
+inspected, its call and its reply are written, and the next ones follow. Requests for other indexes don't
+wait.
 
-A thread asks the cluster, one question at a time. What was passed on meanwhile may have written to the index,
-by a name of it that isn't known yet, so that is remembered.
+A thread asks the cluster, with one request at a time. Writes that were passed on meanwhile may have been to
+the index, by a name that isn't known yet, so they are remembered.
 """
 
 import threading
@@ -21,59 +21,58 @@ from .judge import JUDGED_BY_BODY, Judge, Passed
 from .recorded_requests import IndexMakingRequest
 
 MOST_GONE = 1000
-"""How many requests that will never be answered are remembered."""
+"""How many requests without an answer are remembered."""
 
 LONGEST_GONE = 2048
-"""The most bytes of the target of such a request."""
+"""The maximum length in bytes of the target of such a request."""
 
 PACKED = (b"\x1f\x8b", b"\x78")
-"""What a content begins with that is packed by gzip or deflate."""
+"""The first bytes of content that is compressed by gzip or deflate."""
 
 PATIENCE = SECONDS + 2.0
-"""For how many seconds an answer of the cluster is waited for."""
+"""The timeout in seconds for an answer of the cluster."""
 
 MOST_FOR_OTHERS = 0.5
-"""For how many seconds those wait for it, at most, whose requests are for another index. (An application that
-uses a name of the index that isn't known yet goes on when the index was looked at, if the cluster answers as
-usual.)"""
+"""How many seconds requests for other indexes wait at most. (An application that uses an unknown name of the
+index goes on after the inspection, if the cluster answers as usual.)"""
 
 
 class Waiting(NamedTuple):
-    """Who waits for the answer to a question, and whether for as long as it takes."""
+    """A request that waits for the inspection, and whether it waits as long as that takes."""
 
     go_on: GoOn
     is_for_index: bool
 
 
 class IndexDiscovery:
-    """Looks for an index that isn't there yet."""
+    """Discovers an index that doesn't exist yet."""
 
     def __init__(self, loop: Loop, inspector: Inspector, index: str, judge: Judge) -> None:
         self._loop = loop
         self._inspector = inspector
         self._index = index
         self._judge = judge
-        # writes that were passed on: those that are not answered, those that were while the index was looked
-        # for, and those that never will be
+        # writes that were passed on: those without an answer, those answered during the inspection, and those
+        # that will never be answered
         self._open: Dict[object, Passed] = {}
         self._meanwhile: List[Passed] = []
         self._gone: List[Passed] = []
         self._has_forgotten = False
-        # who waits for the answer to the question at hand, and who for the next one's
+        # the requests that wait for the current inspection, and for the next one
         self._waiting: List[Waiting] = []
         self._waiting_next: List[Waiting] = []
-        # whether the question has to be asked once more
+        # whether another inspection is needed
         self._is_due = False
         self._asked_at: Optional[float] = None
         self.queue = RequestQueue(loop)
-        # the request that may make the index, since when it is out, and what gives it up
+        # the request that may create the index, when it was passed on, and the callback for its timeout
         self._making: Optional[IndexMakingRequest] = None
         self._made_since = 0.0
         self._give_up: GoOn = turn_ended
-        # how many writes others may have made of documents that aren't judged
+        # how many changes others may have made to documents that aren't judged
         self._unknown = 0
-        # the names by which other writes went that were answered, which may be names of the index; None if
-        # they can't be determined
+        # the names in the paths of other answered writes, which may be names of the index; None if they can't
+        # be determined
         self._names: Optional[Set[str]] = set()
         loop.ticks[self._tick] = None
 
@@ -84,35 +83,35 @@ class IndexDiscovery:
 
     @property
     def has_queue(self) -> bool:
-        """Whether a request has the turn still, or waits for it."""
+        """Whether a request still has its turn, or waits for it."""
         return not self.queue.is_over
 
     def concerns(self, route: Route, content: Optional[bytes]) -> bool:
-        """Whether a request may be for the index. A bulk request that doesn't say its name isn't; one that is
-        packed may be."""
+        """Returns whether a request may be for the index. A bulk request that doesn't contain its name isn't;
+        a compressed one may be."""
         if route.kind is not BULK or route.index_name == self._index or content is None:
             return True
         return self._index.encode() in content or b"\\" in content or content.startswith(PACKED)
 
     def passes(self, exchange: object, passed: Passed) -> None:
-        """Heeds that a write is passed on."""
+        """Called when a write is passed on."""
         self._open[exchange] = passed
 
     def makes(self, making: IndexMakingRequest, give_up: GoOn) -> None:
-        """Heeds that a request which may make the index is passed on, and has the turn. It is given up if it
-        takes too long."""
+        """Called when a request that may create the index is passed on, in its turn. After the timeout
+        `give_up` is called."""
         self._making, self._made_since, self._give_up = making, self._loop.now, give_up
 
     def has_made(self, is_known: bool) -> None:
-        """Heeds that this request is over, and whether it is known what it wrote."""
+        """Called when this request is over; `is_known` if it is known what it wrote."""
         if not is_known and self._making is not None:
             self._unknown += self._making.writes
         self._making = None
         self.queue.end()
 
     def answered(self, exchange: object, go_on: GoOn, is_for_index: bool) -> None:
-        """Heeds that a write was answered, and looks whether the index is there now; then it goes on. If the
-        write isn't for the index, by the names that are known, it doesn't wait long."""
+        """Called when a write was answered: looks for the index, and then calls `go_on`. If the write isn't
+        for the index by its known names, it doesn't wait long."""
         passed = self._open.pop(exchange, None)
         if passed is not None:
             self._remember(passed)
@@ -126,7 +125,7 @@ class IndexDiscovery:
             self._release_others(self._loop.now)
 
     def _remember(self, passed: Passed) -> None:
-        """Remembers by which name a write went that isn't for the index by the names that are known."""
+        """Remembers the name in the path of a write that isn't for the index by its known names."""
         if self._names is not None and passed.route.kind is RouteKind.PASS:
             self._names.add(passed.name)
         if (
@@ -137,7 +136,7 @@ class IndexDiscovery:
             self._names = None
 
     def _writes_of(self, shape: Shape) -> int:
-        """How many changes others may have made, none of a document that is judged; 0 if they may have made
+        """Returns how many changes others may have made to documents that aren't judged; 0 if there may be
         more, by another name."""
         has_more_names = len(shape.names.all) > 1
         if has_more_names and (
@@ -147,7 +146,7 @@ class IndexDiscovery:
         return self._unknown + (self._making.writes if self._making is not None else 0)
 
     def never_answered(self, exchange: object) -> None:
-        """Heeds that a write will never be answered, if it was passed on. It may be performed at any time."""
+        """Called when a write that was passed on will never be answered. It may be performed at any time."""
         passed = self._open.pop(exchange, None)
         if passed is None or self.is_over:
             return
@@ -157,7 +156,7 @@ class IndexDiscovery:
             self._has_forgotten = True
 
     def _look(self) -> None:
-        """Has the cluster asked, for all who wait, or has them go on if there is nothing to ask."""
+        """Starts an inspection for all that wait, or has them go on if none is needed."""
         self._waiting, self._waiting_next = self._waiting_next, []
         is_due, self._is_due = self._is_due, False
         if self.is_over:
@@ -167,43 +166,41 @@ class IndexDiscovery:
             threading.Thread(target=self._ask, daemon=True).start()
 
     def _ask(self) -> None:
-        """Asks, on a thread of its own."""
-        told: Union[Shape, ClusterError, None]
+        """Inspects the index, on its own thread."""
+        result: Union[Shape, ClusterError, None]
         try:
-            told = self._inspector.inspect(self._index)
+            result = self._inspector.inspect(self._index)
         except ClusterError as fault:
-            told = fault
+            result = fault
         except Exception as fault:
-            told = ClusterError(f"the index can't be looked at: {fault!r}")
-        self._loop.call(lambda: self._told(told))
+            result = ClusterError(f"the index can't be inspected: {fault!r}")
+        self._loop.call(lambda: self._take_result(result))
 
-    def _told(self, told: Union[Shape, ClusterError, None]) -> None:
-        """Takes the answer, unless it came too late."""
+    def _take_result(self, result: Union[Shape, ClusterError, None]) -> None:
+        """Takes the result, unless it is too late."""
         if self._asked_at is None:
             return
         self._asked_at = None
-        if isinstance(told, ClusterError):
-            self._judge.end(str(told))
-        elif told is not None and self._has_forgotten:
-            self._judge.end(
-                "more requests than are remembered were never answered, and may write to the index"
-            )
-        elif told is not None:
+        if isinstance(result, ClusterError):
+            self._judge.end(str(result))
+        elif result is not None and self._has_forgotten:
+            self._judge.end("too many requests were never answered, and may write to the index")
+        elif result is not None:
             self._judge.found(
-                told, [*self._open.values(), *self._meanwhile], self._gone, self._writes_of(told)
+                result, [*self._open.values(), *self._meanwhile], self._gone, self._writes_of(result)
             )
         self._meanwhile.clear()
         self._go_on()
         self._look()
 
     def _go_on(self) -> None:
-        """Has those go on who wait."""
+        """Has the waiting requests go on."""
         waiting, self._waiting = self._waiting, []
         for it in waiting:
             self._loop.soon(it.go_on)
 
     def _release_others(self, now: float) -> None:
-        """Has those go on who wait for another index, if the answer takes long."""
+        """Has requests for other indexes go on, if the inspection takes long."""
         if self._asked_at is None or now < self._asked_at + MOST_FOR_OTHERS:
             return
         for waiting in (self._waiting, self._waiting_next):
@@ -213,12 +210,12 @@ class IndexDiscovery:
             waiting[:] = [it for it in waiting if it.is_for_index]
 
     def _tick(self, now: float) -> None:
-        """Gives up where the answer takes too long; who doesn't need it goes on before."""
+        """Checks the timeouts."""
         self._release_others(now)
         if self._asked_at is not None and now > self._asked_at + PATIENCE:
-            self._told(
+            self._take_result(
                 ClusterError(
-                    f"the cluster didn't tell within {PATIENCE:.0f} seconds whether the index is there"
+                    f"the cluster didn't answer within {PATIENCE:.0f} seconds whether the index exists"
                 )
             )
         elif self._making is not None and now > self._made_since + PATIENCE:
@@ -226,4 +223,4 @@ class IndexDiscovery:
 
 
 def turn_ended() -> None:
-    """Does nothing: nobody has the turn."""
+    """Does nothing, while no request has its turn."""

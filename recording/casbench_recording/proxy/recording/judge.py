@@ -1,10 +1,9 @@
-"""What a recorder that watches writes down: which calls a request makes, what its answer says of them, and
-what it can't tell.
+"""Decides what the proxy records: the calls of each request, and what its answer says about them.
 
-Nothing is guessed. A call whose reply can't be determined exactly is lost. A document of which some write
-can't be determined is judged no longer: its open calls are lost, later ones aren't recorded, and a list
-beside the history names it. Where it can't be told which documents are written, the recording ends. So what
-was recorded stays right in each case.
+Nothing is guessed. A call whose reply can't be determined exactly is lost. If a write of a document can't be
+determined, the document isn't judged any more: its open calls are lost, later ones aren't recorded, and a
+list beside the history names it. If it can't be determined which documents are written, the recording ends.
+So what was recorded stays right.
 """
 
 from typing import Callable, FrozenSet, Iterable, NamedTuple, Optional
@@ -25,8 +24,7 @@ from .request_recorder import RequestRecorder
 
 
 class Passed(NamedTuple):
-    """A request that was passed on: its method, its target, how that is read, and what the request was taken
-    for."""
+    """A request that was passed on: its method, its target, how its path is read, and its route."""
 
     method: str
     target: bytes
@@ -35,8 +33,7 @@ class Passed(NamedTuple):
 
     @property
     def name(self) -> str:
-        """The first part of its path, which names the index, or indexes, unless it is one of the cluster's
-        own words."""
+        """The first part of its path, which names the index or indexes, unless it is a name of the API."""
         return self.paths.own(parts_of(path_of(self.target.decode("utf-8", "replace")), "replace"))[0]
 
 
@@ -44,11 +41,12 @@ HARMLESS_KINDS = (RouteKind.PASS, RouteKind.MAKE, RouteKind.NODES)
 """Requests that change no document."""
 
 JUDGED_BY_BODY = (BULK, RouteKind.CHECK_BODY)
-"""Requests whose bodies name what they change, which was looked for by the names that were known then."""
+"""Requests whose bodies name what they change, which was checked with the names known at that time."""
 
 
 class Judge:
-    """Tells what each request asks, and writes the history. One thread uses it."""
+    """Decides what is recorded, and records it: `requests` writes calls, and `answers` replies. One thread
+    uses it."""
 
     def __init__(
         self,
@@ -65,15 +63,15 @@ class Judge:
         self.writer = HistoryWriter(history, unjudged)
         self.documents = JudgedDocuments(self.writer, shape, name, first, only, most_kept)
         self._is_closed = False
-        # takes what the index is once it is found
+        # called with the description of the index when it is found
         self.on_shape: Callable[[Shape], object] = lambda shape: None
-        # what writes the calls of requests, and what writes their endings
+        # record calls and replies
         self.requests = RequestRecorder(self.documents)
         self.answers = AnswerRecorder(self.documents, self.requests)
 
     @property
     def shape(self) -> Optional[Shape]:
-        """What the index is, or None as long as it isn't there."""
+        """The description of the index, or None as long as it doesn't exist."""
         return self.documents.shape
 
     @property
@@ -82,12 +80,12 @@ class Judge:
         return self.writer.has_ended
 
     def route(self, method: str, target: bytes, paths: Paths = AS_SENT) -> Route:
-        """What a request asks."""
+        """Returns what a request does."""
         return PASS if self.writer.has_ended else route_of(method, target, self.documents.names, paths)
 
     def settle(self) -> None:
-        """Has the recording wait: no call has a line until `settled`, and a document that is written
-        meanwhile isn't judged."""
+        """Delays the recording until `settled`: no call is recorded, and a document that is written meanwhile
+        isn't judged."""
         self.documents.is_settling = True
 
     def settled(self) -> None:
@@ -97,12 +95,12 @@ class Judge:
     def found(
         self, shape: Shape, passed: Iterable[Passed], gone: Iterable[Passed] = (), writes: int = 0
     ) -> None:
-        """Takes what the index is that was not there before. If more was written to it than so many writes
-        that are known, only what is seen created is judged.
+        """Takes the description of the index, which didn't exist before. If there were more than `writes`
+        changes, only documents that are seen created are judged.
 
-        It is told which requests were passed on, and not answered when the index was looked for, and which of
-        those never will be. If one may write to the index by a name that wasn't known, the index isn't looked
-        at yet, or never can be.
+        `passed` are the requests without an answer when the index was inspected, and `gone` those that will
+        never get one. If one of them may have written to the index by a name that wasn't known, the index is
+        inspected again, or the recording ends.
         """
         if any(may_have_written(it, shape) for it in gone):
             self.end("a request that was never answered may write to the index, by a name that wasn't known")
@@ -116,10 +114,9 @@ class Judge:
     def made(
         self, making: IndexMakingRequest, status: int, content: Optional[bytes], length: Optional[int]
     ) -> bool:
-        """Writes the call of a request that was passed on alone, and what its answer says; nothing else on
-        the index was open.
+        """Records a request that was passed on alone, and its answer; no other request on the index was open.
 
-        Tells whether it is known what it wrote. If there is no index, and the request was refused, it wrote
+        Returns whether it is known what it wrote. If there is no index, and the request was refused, it wrote
         nothing.
         """
         if self.shape is None and 400 <= status < 500:
@@ -130,7 +127,7 @@ class Judge:
         return self.shape is not None
 
     def lost(self, recorded: RecordedRequest) -> None:
-        """Writes that no whole answer came."""
+        """Records that no complete answer came."""
         if isinstance(recorded, IndexMakingRequest):
             asked = self.requests.ask(recorded.route, recorded.method, recorded.content, recorded.requester)
         else:
@@ -144,11 +141,11 @@ class Judge:
             history.note(text)
 
     def end(self, why: str) -> None:
-        """Ends the recording before its time: all calls that are open are lost, and no more are written."""
+        """Ends the recording early: all open calls are lost, and no more are written."""
         self.writer.end(why)
 
     def close(self) -> None:
-        """Ends the recording at its time, once. What was never seen created isn't judged."""
+        """Ends the recording at its time, once. Documents that were never seen created aren't judged."""
         if self._is_closed:
             return
         self._is_closed = True
@@ -158,10 +155,10 @@ class Judge:
 
 
 def may_have_written(passed: Passed, shape: Shape) -> bool:
-    """Whether a request that was passed on may have written to the index, unknown by the name that it
-    used."""
+    """Returns whether a request that was passed on may have written to the index by a name that wasn't
+    known."""
     if len(shape.names.all) == 1:
-        # (the one that was known)
+        # (the known one)
         return False
     method, target, paths, route = passed
     was_passed_by = route.kind is RouteKind.PASS and method not in READS

@@ -1,4 +1,4 @@
-"""What a request asks, once it was read: its calls, each with how its reply is read."""
+"""Requests as they are recorded: their calls, and how the replies are read."""
 
 import re
 from typing import Any, List, Mapping, NamedTuple, Optional, Sequence
@@ -13,34 +13,34 @@ from .bulk_items import BulkItems
 DIGITS = re.compile(r"[0-9]{1,19}")
 
 OF_A_VERSION = {"version", "version_type"}
-"""Parameters of a condition that no line has."""
+"""Parameters of a condition that a history can't express."""
 
 OF_A_CONDITION = OF_A_VERSION | {"if_seq_no", "if_primary_term"}
 """Parameters of a condition."""
 
 HIDES_PARTS = PARTS_OF_A_SOURCE - {"_source"} | {"filter_path"}
-"""Parameters of a get whose reply may not show all of the source."""
+"""Parameters of a get whose reply may not show the whole source."""
 
 MANY_WRITES = 10**9
-"""How many changes a bulk request may make that can't be read."""
+"""The assumed number of changes of an unreadable bulk request."""
 
 WEIGHT_OF_A_PART = 512
-"""About how many bytes a part takes that has no call yet, with its words."""
+"""The approximate number of bytes of a part without a call, with its parameters."""
 
 
 class Requester(NamedTuple):
-    """Who asks, and through which node; each is empty if it isn't known."""
+    """The client and the node of a request; empty if they aren't known."""
 
     client: str = ""
     node: str = ""
 
 
 UNKNOWN_REQUESTER = Requester()
-"""Who asks if nobody says."""
+"""An unknown client and node."""
 
 
 class RequestedCall:
-    """A call that a request makes, and how its reply is read."""
+    """A call of a request, and how its reply is read."""
 
     __slots__ = (
         "id",
@@ -55,28 +55,29 @@ class RequestedCall:
         "turn",
     )
 
-    # of a write whose id comes with the answer: who asks, and how many sweeps there had been when it was made
+    # for a write whose id comes with the answer: the requester, and the number of sweeps before it
     requester: "Requester"
     sweeps: int
-    # what its line says
+    # the operation in its line
     operation: Operation
 
     def __init__(self, id: str, op: str, parameters: Mapping[str, Any], digest: Optional[int] = None) -> None:
-        # (an empty id if the answer tells it)
+        # (empty if the id comes with the answer)
         self.id = id
         self.op = op
         self.parameters = parameters
-        # of the source that is written, if it can be known
+        # the digest of the written source, if it is known
         self.digest = digest
         self.document: Optional[Document] = None
-        # the turn of a write among those of its document, 0 of a get
+        # the turn of a write among those of its document, 0 for a get
         self.turn = 0
-        # its call, once the line is written
+        # its call, after the line was written
         self.call: Optional[Call] = None
 
     @property
     def is_sure(self) -> bool:
-        """Whether the line of a write says all that it depends on, so that a conflict may be recorded."""
+        """Whether the line of a write has everything that it depends on, so that a conflict may be
+        recorded."""
         parameters = self.parameters
         return (
             OF_A_CONDITION.isdisjoint(parameters)
@@ -96,24 +97,23 @@ class RequestedCall:
 
 
 class RequestedUpdate(RequestedCall):
-    """An update, of which the primary's node may make several attempts."""
+    """An update, for which the primary's node may make several attempts."""
 
     __slots__ = ("is_handed_on", "is_alone", "before")
 
-    # whether each write before it was over and its outcome known, and the greatest pair that one was
-    # acknowledged with
+    # whether the outcome of each write before it was known, and the greatest acknowledged pair then
     is_alone: bool
     before: Optional[Pair]
 
     def __init__(self, id: str, parameters: Mapping[str, Any], is_handed_on: bool) -> None:
         super().__init__(id, "index", parameters)
-        # whether its request is one alone, which is handed to the primary's node
+        # whether it is a request of its own, which is forwarded to the primary's node
         self.is_handed_on = is_handed_on
 
 
 class RecordedRequest:
-    """A request that is passed on: its kind, its calls, or None for an item that is none of ours, and whether
-    its answer is its end."""
+    """A request that is passed on: its kind, its calls (None for an item that isn't recorded), and whether it
+    is over when it is answered."""
 
     __slots__ = ("kind", "parts", "is_head", "is_over_at_answer")
 
@@ -131,13 +131,13 @@ class RecordedRequest:
 
     @property
     def weight(self) -> int:
-        """About how many bytes are kept for parts that are no calls of a history."""
+        """The approximate number of bytes that are kept for parts without a call."""
         return 8 * len(self.parts)
 
 
 class IndexMakingRequest(RecordedRequest):
-    """A request that may make the index, and is passed on alone: what it asks is told once the index was
-    looked at."""
+    """A request that may create the index and is passed on alone: its calls are written after the inspection
+    of the index."""
 
     __slots__ = ("route", "method", "content", "requester")
 
@@ -146,7 +146,7 @@ class IndexMakingRequest(RecordedRequest):
         self.route = route
         self.method = method
         self.requester = requester
-        # (None where it can't be read)
+        # (None if it can't be read)
         self.content = content
 
     @property
@@ -156,14 +156,14 @@ class IndexMakingRequest(RecordedRequest):
 
     @property
     def writes(self) -> int:
-        """How many changes of documents it makes at most."""
+        """The maximum number of its changes of documents."""
         if self.kind is RouteKind.BULK:
             return MANY_WRITES if self.content is None else self.content.count(b"\n") + 1
         return int(self.kind is not RouteKind.MAKE)
 
 
 class RecordedBulkRequest(RecordedRequest):
-    """A bulk request, whose items are read as they come."""
+    """A bulk request, whose items are read as they are received."""
 
     __slots__ = ("items", "parameters", "index_name", "requester", "unnamed")
 
@@ -176,14 +176,13 @@ class RecordedBulkRequest(RecordedRequest):
         self.items = BulkItems(longest)
         self.parameters = parameters
         self.requester = requester
-        # the index that the path names
+        # the index in the path
         self.index_name = index_name
-        # how many parts are kept whose ids the answer tells
+        # how many parts without an id are kept
         self.unnamed = 0
 
     def add(self, parts: Sequence[Optional[RequestedCall]], has_room: bool) -> None:
-        """Keeps, of parts whose calls are written, what the answer may tell something of; of those without an
-        id only if there is room."""
+        """Keeps the parts whose replies matter: those with calls, and those without ids if there is room."""
         for it in parts:
             is_unnamed = it is not None and not it.id and has_room
             self.unnamed += is_unnamed
@@ -191,17 +190,17 @@ class RecordedBulkRequest(RecordedRequest):
 
     @property
     def weight(self) -> int:
-        """The same, with those whose ids the answer tells."""
+        """The same, with the parts without ids."""
         return super().weight + WEIGHT_OF_A_PART * self.unnamed
 
     @property
     def has_calls(self) -> bool:
-        """Whether an item was one of ours."""
+        """Whether an item is recorded."""
         return any(it is not None for it in self.parts)
 
 
 def condition_of(op: str, parameters: Mapping[str, Any]) -> Optional[Pair]:
-    """The condition that the words of a write name, if they name one."""
+    """Returns the condition in the parameters of a write, if there is one."""
     seq, term = str(parameters.get("if_seq_no")), str(parameters.get("if_primary_term"))
     if op not in TAKES_A_CONDITION or not (DIGITS.fullmatch(seq) and DIGITS.fullmatch(term)):
         return None

@@ -1,4 +1,4 @@
-"""What the body of an answer says, and the text of it that is written."""
+"""Reads the bodies of answers, and makes the text of them that is recorded."""
 
 import functools
 import json
@@ -15,17 +15,17 @@ from casbench_recording.history.format import (
 from casbench_recording.index_inspection import Shape
 
 MOST_REMEMBERED = 4096
-"""How many texts of replies are remembered."""
+"""How many texts of replies are cached."""
 
 LONGEST_REMEMBERED = 1024
-"""The most letters of such a text."""
+"""The maximum length of a cached text."""
 
 OF_A_MISSING_ONE = {"_index", "_id", "found"}
 """The members of the usual reply to a get that found nothing."""
 
 
 def readable(id: str, body: JsonObject) -> Optional[str]:
-    """The text of the members of a document's body that count, or None where casbench wouldn't read it."""
+    """Returns the text of the relevant members of a document's body, or None if casbench wouldn't read it."""
     if body.keys() == OF_A_MISSING_ONE and body["found"] is False:
         return text_of_missing(id)
     counting = counting_members(body)
@@ -38,34 +38,34 @@ def readable(id: str, body: JsonObject) -> Optional[str]:
 
 
 read_again = functools.lru_cache(maxsize=MOST_REMEMBERED)(text_of)
-"""A text that casbench reads, remembered: most replies without a pair say the same."""
+"""Returns a text that casbench reads, cached: most replies without a pair are equal."""
 
 
 def listed(body: Optional[JsonObject], member: str, count: int) -> Iterator[Any]:
-    """The items of an answer, if they are so many; else none."""
+    """Returns the items of an answer, if there are this many; else none."""
     items = (body or {}).get(member)
     return iter(items if isinstance(items, list) and len(items) == count else ())
 
 
 def true_members(body: JsonObject) -> FrozenSet[str]:
-    """The members of a body that hold anything but false."""
+    """Returns the keys of a body whose values aren't false or empty."""
     return frozenset(key for key, it in body.items() if it)
 
 
-def item_status(member: str, told: JsonObject) -> int:
-    """The status of an item of an answer, 0 where there is none. That of a get of several is told by what it
+def item_status(member: str, item: JsonObject) -> int:
+    """Returns the status of an item of an answer, 0 if it has none. That of a multi-get follows from what it
     found."""
     if member == "items":
-        status = told.get("status", 0)
+        status = item.get("status", 0)
         return int(status) if is_whole(status, 0, 65_535) else 0
-    if "error" in told or not isinstance(told.get("found"), bool):
+    if "error" in item or not isinstance(item.get("found"), bool):
         return 0
-    return 200 if told["found"] else 404
+    return 200 if item["found"] else 404
 
 
 def missing_by_length(shape: Optional[Shape], id: str, length: Optional[int]) -> JsonObject:
-    """What a 404 to a HEAD says: that the document is missing, where the body that it would have is as long
-    as that one says it."""
+    """Returns what a 404 to a HEAD says: that the document is missing, if the Content-Length is that of such
+    a body."""
     body: JsonObject = {"_index": shape.name if shape else "", "_id": id, "found": False}
     texts = [
         json.dumps(it, separators=(",", ":"), ensure_ascii=False) for it in (body, {**body, "_type": "_doc"})

@@ -1,4 +1,4 @@
-"""Which calls a request makes. Their lines are written before the request is passed on."""
+"""Records the calls of requests, before the requests are passed on."""
 
 import re
 from typing import Any, Iterator, List, Mapping, Optional, Sequence
@@ -33,20 +33,20 @@ from .recorded_requests import (
 )
 
 MOST_PLACES = 5000
-"""The most documents of a get of several that is recorded."""
+"""The maximum number of documents of a multi-get that is recorded."""
 
 OF_A_PLACE = {"_index", "_type", "_id", *OF_A_GET}
-"""What may stand in a place of a get of several."""
+"""The parameters of a document in a multi-get."""
 
 OF_A_PARTIAL_UPDATE = {"doc", "doc_as_upsert", "upsert", "detect_noop", "_source"}
-"""What may stand in the body of an update that writes a document and can't delete it."""
+"""The members of the body of an update that writes a document and can't delete it."""
 
 HALF = re.compile("[\ud800-\udfff]")
-"""Half of a surrogate pair, which UTF-8 has no bytes for."""
+"""Matches half of a surrogate pair, which can't be encoded in UTF-8."""
 
 
 class RequestRecorder:
-    """Tells what each request asks, and writes the lines of its calls."""
+    """Determines the calls of each request, and writes their lines."""
 
     def __init__(self, documents: JudgedDocuments) -> None:
         self._documents = documents
@@ -55,8 +55,7 @@ class RequestRecorder:
     def ask(
         self, route: Route, method: str, content: Optional[bytes], requester: Requester = UNKNOWN_REQUESTER
     ) -> Optional[RecordedRequest]:
-        """Writes the calls of a client's request, before it is passed on. The content is None where it can't
-        be read."""
+        """Records the calls of a request. The content is None if it can't be read."""
         try:
             if self._writer.has_ended:
                 return None
@@ -70,16 +69,15 @@ class RequestRecorder:
         return None
 
     def ask_in_pieces(self, route: Route, requester: Requester = UNKNOWN_REQUESTER) -> RecordedBulkRequest:
-        """Begins with a client's bulk request, whose content comes in pieces."""
+        """Begins a bulk request whose content is received in pieces."""
         return RecordedBulkRequest(route.parameters, route.index_name, requester, MOST_READ)
 
     def take_items(
         self, recorded: RecordedBulkRequest, content: Optional[bytes], is_last: bool, has_room: bool = True
     ) -> None:
-        """Writes the calls of the items that are whole, before they are passed on. The content is None where
-        it can't be read.
+        """Records the calls of the items that are complete. The content is None if it can't be read.
 
-        If there is no room the answer isn't asked for the ids of those that have none.
+        If there is no room, the ids in the answer are not used for items without an id.
         """
         try:
             if content is None and not self._writer.has_ended:
@@ -92,7 +90,7 @@ class RequestRecorder:
             self._writer.end_by(fault)
 
     def begin_sweep(self, route: Route) -> Optional[RecordedRequest]:
-        """Heeds that a request may change every document that is there, those of now and those that are seen
+        """Begins a request that may change every document: those that exist now, and those that are seen
         before its answer."""
         if self._writer.has_ended:
             return None
@@ -100,15 +98,15 @@ class RequestRecorder:
         return RecordedRequest(route.kind, (), is_over_at_answer=not route.op)
 
     def sweeping(self, route: Route) -> Iterator[None]:
-        """Judges those no longer that are there, before the request is passed on, in steps between which
-        others have their turn."""
+        """Stops judging the existing documents before the request is passed on, in steps between which other
+        events are handled."""
         try:
             yield from self._documents.sweep(f"{route.why} may have changed it")
         except Exception as fault:
             self._writer.end_by(fault)
 
     def _ask(self, route: Route, content: Optional[bytes], requester: Requester) -> Optional[RecordedRequest]:
-        """The same of a request that isn't of one kind with most of them."""
+        """Records the calls of a request of a less frequent kind."""
         kind = route.kind
         if kind is RouteKind.NEW:
             return self._made_one(
@@ -141,12 +139,12 @@ class RequestRecorder:
             raise UnknownWrites(route.why)
         return None
 
-    # The calls of a request, and their lines
+    # Calls and their lines
 
     def _made_one(
         self, kind: RouteKind, part: RequestedCall, requester: Requester, is_head: bool = False
     ) -> RecordedRequest:
-        """Writes the call of a request that makes one, before the request is passed on."""
+        """Records the call of a request with a single one."""
         document = self._document_of(part, requester)
         if document is not None:
             self.set_operation(part, document, requester)
@@ -157,7 +155,7 @@ class RequestRecorder:
     def _made(
         self, kind: RouteKind, parts: List[Optional[RequestedCall]], requester: Requester
     ) -> Optional[RecordedRequest]:
-        """Writes the calls of the parts, all of them before the request is passed on."""
+        """Records the calls of all parts of a request."""
         self._write_parts(parts, requester)
         called = [it if it is not None and it.call is not None else None for it in parts]
         return RecordedRequest(kind, called) if any(it is not None for it in called) else None
@@ -167,7 +165,7 @@ class RequestRecorder:
         pairs = [(it, self._document_of(it, requester)) for it in parts if it is not None]
         judged = []
         for it, document in pairs:
-            # (another part of the request may have ended the judgement of a document)
+            # (another part of the request may have stopped the judging of the document)
             if document is not None and document.state is not NOT_JUDGED:
                 self.set_operation(it, document, requester)
                 judged.append(it)
@@ -184,7 +182,7 @@ class RequestRecorder:
         return True
 
     def _document_of(self, part: RequestedCall, requester: Requester) -> Optional[Document]:
-        """The document of a part, or None if it isn't judged, or if its id comes with the answer."""
+        """Returns the document of a part; None if it isn't judged, or if its id comes with the answer."""
         documents, id = self._documents, part.id
         if not id:
             documents.unnamed += 1
@@ -201,12 +199,12 @@ class RequestRecorder:
         return None
 
     def _is_known(self, part: RequestedCall, shape: Optional[Shape]) -> bool:
-        """Whether the shard of a part is known, in an index that isn't there or has several. A write of which
-        it isn't ends the judgement of its document."""
+        """Returns whether the shard of a part is known, if the index doesn't exist yet or has several. If it
+        isn't known for a write, its document isn't judged any more."""
         if shape is not None and not {"routing", "parent"} & set(part.parameters):
             return True
         if part.op != "get":
-            why = "it was written before the index was looked at"
+            why = "it was written before the index was inspected"
             self._documents.note_unknown_write(
                 part.id,
                 why if shape is None else "it was written with a routing, in an index of several shards",
@@ -214,7 +212,7 @@ class RequestRecorder:
         return False
 
     def set_operation(self, part: RequestedCall, document: Document, requester: Requester) -> None:
-        """Sets what the line of a part's call says."""
+        """Sets the operation of a part, which its line describes."""
         op = part.op
         condition: Optional[Pair] = None
         number: Optional[int] = None
@@ -230,14 +228,14 @@ class RequestRecorder:
             op, part.id, number, condition, document.shard, requester.client, requester.node
         )
 
-    # What a request says of a document
+    # The parts of a request
 
     def _left_out(self, id: str, why: str) -> None:
-        """Heeds a write that can't be determined, and has no line."""
+        """Counts a write that can't be determined, and stops judging its document."""
         self._left_out_of([id], why)
 
     def _left_out_of(self, ids: Sequence[str], why: str) -> None:
-        """The same of a write of one of several documents."""
+        """The same for a write of one of several documents."""
         self._documents.left_out += 1
         for it in ids:
             self._documents.note_unknown_write(it, why)
@@ -245,14 +243,14 @@ class RequestRecorder:
     def _update(
         self, id: str, parameters: Mapping[str, Any], body: Optional[JsonObject], is_handed_on: bool
     ) -> Optional[RequestedCall]:
-        """The call that an update is: a write of a source that nobody knows, where it can't be a delete."""
+        """Returns the call of an update: a write of an unknown source, unless it may be a delete."""
         if body is None or not OF_A_PARTIAL_UPDATE.issuperset(body):
             self._left_out(id, "it was updated, perhaps by a script")
             return None
         return RequestedUpdate(id, {"if_seq_no": None, **parameters}, is_handed_on)
 
     def _item(self, item: BulkItem, recorded: RecordedBulkRequest) -> Optional[RequestedCall]:
-        """The call of an item of a bulk request, or None where it is none of the index, or can't be
+        """Returns the call of an item of a bulk request; None if it is for another index, or can't be
         determined."""
         op, parameters, documents = item.op, {**recorded.parameters, **item.parameters}, self._documents
         index, id = parameters.get("_index", recorded.index_name), parameters.get("_id", "")
@@ -262,7 +260,7 @@ class RequestRecorder:
         if index not in documents.names.all and not documents.names.may_be_among(index):
             return None
         if not isinstance(id, str):
-            raise UnknownWrites(f"a bulk request with an id that is no text, in the action {op[:20]!r}")
+            raise UnknownWrites(f"a bulk request with an id that isn't a string, in the action {op[:20]!r}")
         if index not in documents.names.all or not id.isascii() and not length_of(id):
             self._left_out_of(ids_of(id), f"it was written by a bulk request to {index[:200]}")
             return None
@@ -281,13 +279,13 @@ class RequestRecorder:
         return RequestedCall(id, op, parameters, digest_of_text(item.source))
 
     def _places(self, route: Route, body: Optional[JsonObject]) -> Iterator[Optional[RequestedCall]]:
-        """The calls of a get of several documents."""
+        """Yields the calls of a multi-get."""
         names = self._documents.names
         places = (body or {}).get("docs")
         ids = (body or {}).get("ids")
         if not isinstance(places, list):
             places = [{"_id": it} for it in ids] if isinstance(ids, list) else []
-        # (those for which there is no room leave what was recorded, and no document is kept of them)
+        # (a multi-get for which there is no room isn't recorded)
         room = min(
             (it.room for it in self._writer.history.histories if not it.has_ended), default=MOST_PLACES
         )
@@ -308,7 +306,7 @@ class RequestRecorder:
 
 
 def ids_of(id: str) -> Sequence[str]:
-    """The ids that servers may make of one. Half of a surrogate pair has no bytes of its own: they write
+    """Returns the ids that servers may make of one. Half of a surrogate pair has no encoding: they write
     another character for it."""
     if length_of(id) or not id:
         return (id,)

@@ -1,2 +1,1 @@
-"""What a request asks, by its method, its path and its query, and by its body if it writes elsewhere than its
-path says."""
+"""What a request does, by its method, path and query, and for some requests by the body."""

@@ -1,7 +1,7 @@
-"""What the body of a request says of where it writes, if its path doesn't: which indexes it restores or
-fills, which aliases it changes.
+"""Checks of request bodies that say where the request writes: which indexes it restores or fills, which
+aliases it changes.
 
-A body that can't be read, or may be read in two ways, may write anywhere.
+A body that can't be read, or that servers may read differently, may write anywhere.
 """
 
 import re
@@ -15,13 +15,13 @@ if TYPE_CHECKING:
     from casbench_recording.index_names import Names
 
 MOST_LOOKED_AT = 512 * 1024
-"""The most bytes of a body that is looked at."""
+"""The maximum length of a body that is checked, in bytes."""
 
 PIPELINES = ("default_pipeline", "final_pipeline")
-"""Settings by which an index keeps other sources than it is given."""
+"""Settings with which an index stores other sources than it is given."""
 
 OF_SOURCES = {"_source", "_routing"}
-"""Parts of a mapping that change what an index keeps of a source, or on which shard it is."""
+"""Parts of a mapping that change how an index stores a source, or on which shard."""
 
 TARGETS = ("target_index", "result_index", "index_name", "index")
 """Members that name the index that a job of a plugin writes to."""
@@ -30,7 +30,7 @@ WITH_LOSSES = ("allocate_stale_primary", "allocate_empty_primary")
 """Commands that give up acknowledged writes."""
 
 WHOLE_NAME = "(.+)"
-"""The pattern of a restore that takes a name as a whole."""
+"""The pattern of a restore that matches a whole name."""
 
 WORD = re.compile(r"[\w.+*-]+")
 COMMENT = re.compile(r"/\*|--|#")
@@ -41,30 +41,32 @@ QueryParameters = Mapping[str, str]
 
 
 class BodyCheck(Enum):
-    """How a body is looked at, and what in it may change documents of the index."""
+    """How a body is checked, and what in it may change documents of the index."""
 
     NOTHING = "not at all: the request changes no document of the index"
     SETTINGS = "a pipeline of the index, or a mapping of its sources"
-    ALIASES = "an alias of the index, or one by a name of it"
-    REINDEX = "the index documents are copied to, or a script, which may copy them anywhere"
+    ALIASES = "an alias of the index, or one with a name of it"
+    REINDEX = "the target of copies, or a script, which may copy documents anywhere"
     RESTORE = "the indexes that are restored"
-    STATEMENT = "a statement of SQL that deletes from the index"
+    STATEMENT = "an SQL statement that deletes from the index"
     TARGET = "the index that a job writes to"
-    NAME = "any text that may name the index"
-    MENTION = "any text of which a name of the index is a word, such as the address of a webhook"
-    REROUTE = "an allocation of a shard of the index that gives up writes"
+    NAME = "any string that may name the index"
+    MENTION = "any string that has a name of the index as a word, such as a webhook URL"
+    REROUTE = "an allocation of a shard of the index that loses acknowledged writes"
 
 
-def may_write(look: BodyCheck, content: Optional[bytes], parameters: QueryParameters, names: "Names") -> bool:
-    """Whether a request may change documents of the index, or what its names lead to."""
-    if look is BodyCheck.NOTHING:
+def may_write(
+    check: BodyCheck, content: Optional[bytes], parameters: QueryParameters, names: "Names"
+) -> bool:
+    """Returns whether a request may change documents of the index, or what its names refer to."""
+    if check is BodyCheck.NOTHING:
         return False
     body = body_of(content)
-    return body is None or CHECKS[look](body, parameters, names)
+    return body is None or CHECKS[check](body, parameters, names)
 
 
 def body_of(content: Optional[bytes]) -> Optional[JsonObject]:
-    """The members of a body, none if it is empty; None if it can't be read."""
+    """Returns the members of a body, none if it is empty; None if it can't be read."""
     if content is None or len(content) > MOST_LOOKED_AT:
         return None
     if not content.strip():
@@ -85,7 +87,7 @@ class Member(NamedTuple):
 
 
 def members_of(value: Any) -> Iterator[Member]:
-    """All members of a value, at any depth."""
+    """Yields all members of a value, at any depth."""
     waiting = [("", value)]
     while waiting:
         parent, it = waiting.pop()
@@ -96,7 +98,7 @@ def members_of(value: Any) -> Iterator[Member]:
 
 
 def texts_of(value: Any) -> Iterator[str]:
-    """All keys and all texts of a value, at any depth."""
+    """Yields all keys and strings of a value, at any depth."""
     waiting = [value]
     while waiting:
         it = waiting.pop()
@@ -108,17 +110,17 @@ def texts_of(value: Any) -> Iterator[str]:
 
 
 def may_name(value: Any, names: "Names") -> bool:
-    """Whether a text in a value may name the index."""
+    """Returns whether a string in a value may name the index."""
     return any(names.may_be_among(it) for it in texts_of(value))
 
 
 def changes_sources(body: JsonObject, parameters: QueryParameters, names: "Names") -> bool:
-    """Whether settings or mappings change what the index keeps."""
+    """Returns whether settings or mappings change what the index stores."""
     return any(is_of_sources(it.parent, it.key) for it in members_of([body, dict(parameters)]))
 
 
 def is_of_sources(parent: str, key: str) -> bool:
-    """Whether a setting or a part of a mapping says so. A pipeline of searches changes no document, and no
+    """Returns whether a setting or a part of a mapping does. A search pipeline changes no document, and no
     get."""
     is_of_searches = (
         key.endswith("search.default_pipeline") or key == "default_pipeline" and parent.endswith("search")
@@ -127,7 +129,7 @@ def is_of_sources(parent: str, key: str) -> bool:
 
 
 def changes_alias(body: JsonObject, parameters: QueryParameters, names: "Names") -> bool:
-    """Whether an action is on an alias of the index, or on an alias that is a name of it."""
+    """Returns whether an action changes an alias of the index, or an alias with one of its names."""
     actions = body.get("actions")
     return (
         any(is_on_alias(it, names) for it in actions) if isinstance(actions, list) else may_name(body, names)
@@ -135,8 +137,8 @@ def changes_alias(body: JsonObject, parameters: QueryParameters, names: "Names")
 
 
 def is_on_alias(action: Any, names: "Names") -> bool:
-    """The same of one action. A filter names no index, and what is removed from another index is none of this
-    one."""
+    """The same for one action. A filter names no index, and removing an alias from another index doesn't
+    matter."""
     described = next(iter(action.values())) if isinstance(action, dict) and len(action) == 1 else None
     if not isinstance(described, dict):
         return may_name(action, names)
@@ -146,12 +148,13 @@ def is_on_alias(action: Any, names: "Names") -> bool:
 
 
 def copies(body: JsonObject, parameters: QueryParameters, names: "Names") -> bool:
-    """Whether documents are copied to the index. A script may name another index for each document."""
+    """Returns whether documents are copied to the index. A script may choose another index for each
+    document."""
     return "script" in body or "dest" not in body or may_name(body["dest"], names)
 
 
 def restores(body: JsonObject, parameters: QueryParameters, names: "Names") -> bool:
-    """Whether the index may be among those that are restored, or an alias of it comes with them."""
+    """Returns whether the index may be restored, or an alias of it with another one."""
     targets = body.get("indices")
     pattern, replacement = body.get("rename_pattern"), body.get("rename_replacement")
     if (pattern, replacement) != (None, None):
@@ -166,8 +169,8 @@ def restores(body: JsonObject, parameters: QueryParameters, names: "Names") -> b
 
 
 def deletes(body: JsonObject, parameters: QueryParameters, names: "Names") -> bool:
-    """Whether a statement of SQL may delete from the index. One without a text goes on with an earlier
-    one."""
+    """Returns whether an SQL statement may delete from the index. A request without a statement continues an
+    earlier one."""
     query = body.get("query")
     if query is None:
         return False
@@ -179,7 +182,7 @@ def deletes(body: JsonObject, parameters: QueryParameters, names: "Names") -> bo
 
 
 def without_comments(statement: str) -> str:
-    """A statement of SQL with a space in the place of each comment."""
+    """Returns an SQL statement with a space in place of each comment."""
     pieces, at = [], 0
     while at >= 0:
         start = COMMENT.search(statement, at)
@@ -191,31 +194,30 @@ def without_comments(statement: str) -> str:
 
 
 def targets(body: JsonObject, parameters: QueryParameters, names: "Names") -> bool:
-    """Whether a job writes to the index."""
+    """Returns whether a job writes to the index."""
     return any(it.key in TARGETS and may_name(it.value, names) for it in members_of(body))
 
 
 def names_it(body: JsonObject, parameters: QueryParameters, names: "Names") -> bool:
-    """Whether the body may name the index, other than in the filter of an alias."""
+    """Returns whether the body may name the index, other than in the filter of an alias."""
     return may_name({key: it for key, it in body.items() if key != "filter"}, names)
 
 
 def mentions(body: JsonObject, parameters: QueryParameters, names: "Names") -> bool:
-    """Whether a name of the index, or a pattern of it, is a word of a text. What is only tried does
-    nothing."""
+    """Returns whether a name or a pattern of the index is a word of a string. A dry run does nothing."""
     return parameters.get("dryrun") != "true" and any(
         is_name(it, names) for text in texts_of(body) for it in WORD.findall(text)
     )
 
 
 def is_name(word: str, names: "Names") -> bool:
-    """Whether a word names the index. A star alone is none."""
+    """Returns whether a word names the index. A star alone doesn't."""
     plain = word.strip(".")
     return plain in names.all or "*" in plain and plain.strip("*") != "" and names.has(plain)
 
 
 def gives_up_writes(body: JsonObject, parameters: QueryParameters, names: "Names") -> bool:
-    """Whether a shard of the index is allocated without the writes that were acknowledged."""
+    """Returns whether a shard of the index is allocated without acknowledged writes."""
     commands = body.get("commands", [])
     listed = [it for it in commands if isinstance(it, dict)] if isinstance(commands, list) else [body]
     return any(it.key in WITH_LOSSES and may_name(it.value, names) for it in members_of(listed))
@@ -232,4 +234,4 @@ CHECKS: Dict[BodyCheck, Callable[[JsonObject, QueryParameters, "Names"], bool]] 
     BodyCheck.MENTION: mentions,
     BodyCheck.REROUTE: gives_up_writes,
 }
-"""Who looks how."""
+"""The function of each check."""

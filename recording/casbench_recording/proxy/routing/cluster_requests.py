@@ -1,8 +1,8 @@
-"""Requests that write something and don't begin with the name of an index: those of the cluster itself, and
-those of its plugins.
+"""Tables of the writing requests that don't begin with the name of an index: those of the cluster, and those
+of plugins.
 
-Each that is known has a row, which says how it is looked at. Reads of plugins have rows too, since many of
-them are sent by POST. What has no row may write anything.
+Each known request has a row with the check of its body. Reads of plugins have rows too, since many of them
+use POST. A request without a row may write anything.
 """
 
 from typing import TYPE_CHECKING, List, NamedTuple, Optional, Sequence, Tuple
@@ -13,24 +13,24 @@ if TYPE_CHECKING:
     from casbench_recording.index_names import Names
 
 PLUGIN_ROOTS = ("_plugins", "_opendistro")
-"""First parts of the paths of plugins: OpenSearch's, and that of Open Distro, which it takes too."""
+"""The first parts of plugin paths: OpenSearch's, and Open Distro's, which it accepts too."""
 
 INDEX = "<index>"
-"""Stands in a row for a part that names indexes: the request changes those alone."""
+"""In a row, a part that names indexes: the request changes only those."""
 
 REST = "**"
-"""Stands at the end of a row for any parts, or none."""
+"""At the end of a row, any number of parts."""
 
 
 class Row(NamedTuple):
-    """Paths, by their parts, of which `*` is any one, and how their requests are looked at."""
+    """A path pattern by its parts, in which `*` is any part, and how the body is checked."""
 
     parts: Tuple[str, ...]
     check: BodyCheck
 
 
 def rows_of(check: BodyCheck, *paths: str) -> List[Row]:
-    """A row for each of the paths."""
+    """Returns a row for each of the paths."""
     return [Row(tuple(it.split("/")), check) for it in paths]
 
 
@@ -90,7 +90,7 @@ CLUSTER_ROWS = [
         BodyCheck.NOTHING, "_cluster/**", "_nodes/**", "_tasks/**", "_cat/**", "_security/**", "_wlm/**"
     ),
 ]
-"""Requests of the cluster itself."""
+"""Requests of the cluster."""
 
 PLUGIN_ROWS = [
     *rows_of(BodyCheck.STATEMENT, "_sql"),
@@ -170,20 +170,20 @@ PLUGIN_ROWS = [
         "_flow_framework/workflow/state/_search",
     ),
 ]
-"""Requests of the plugins that OpenSearch 2.x comes with, behind the root of their paths. A rollup or a
-transform that is started writes where nobody sees, so that has no row."""
+"""Requests of the plugins of OpenSearch 2.x, after the root of their paths. A rollup or a transform that is
+started writes unseen, so it has no row."""
 
 
 def body_check_of(parts: Sequence[str], names: "Names") -> Optional[BodyCheck]:
-    """How a request is looked at; None if it may write anything, or changes indexes by a name among which the
-    index may be."""
+    """Returns how a body is checked; None if the request may write anything, or names indexes that may
+    include ours."""
     rows, parts = (PLUGIN_ROWS, parts[1:]) if parts[0] in PLUGIN_ROOTS else (CLUSTER_ROWS, parts)
     row = next((it for it in rows if fits(it.parts, parts)), None)
     return None if row is None or is_ours(row.parts, parts, names) else row.check
 
 
 def fits(row: Sequence[str], parts: Sequence[str]) -> bool:
-    """Whether a path is one of a row."""
+    """Returns whether a path matches a row."""
     if row[-1] == REST:
         row = row[:-1]
         parts = parts[: len(row)]
@@ -191,5 +191,5 @@ def fits(row: Sequence[str], parts: Sequence[str]) -> bool:
 
 
 def is_ours(row: Sequence[str], parts: Sequence[str], names: "Names") -> bool:
-    """Whether the part of a path that names indexes may name the index."""
+    """Returns whether the part of a path that names indexes may name our index."""
     return any(it == INDEX and names.may_be_among(part) for it, part in zip(row, parts))

@@ -1,9 +1,8 @@
-"""The paths of requests, as OpenSearch reads them, and as it may get them from a server before it that
-normalises paths.
+"""Request paths as OpenSearch reads them, and as it may receive them from a server that normalises paths.
 
-OpenSearch takes each part of a path by itself, without its percent-encoding: `..` is a name to it, and an
-encoded slash a letter. A load balancer, an ingress or a web server between the proxy and the cluster may
-resolve `.` and `..`, decode slashes and drop empty parts.
+OpenSearch decodes each part of a path separately: `..` is a name, and an encoded slash belongs to a part. A
+load balancer, an ingress or a web server between the proxy and the cluster may resolve `.` and `..`, decode
+slashes and drop empty parts.
 """
 
 import re
@@ -11,21 +10,20 @@ import urllib.parse
 from typing import List, Optional
 
 MAY_CHANGE = re.compile(r"%(?:2e|2f|3f|5c)|\\|/\.{1,2}(?:/|$)", re.IGNORECASE)
-"""What a path has that such a server may change. Empty parts are none of it: what OpenSearch makes of them
-changes no document."""
+"""Matches what such a server may change in a path. Empty parts don't matter: the result changes no document
+in OpenSearch."""
 
 SEPARATORS = re.compile(r"[/\\]")
-"""What such a server may take for the end of a part: some take a backslash for a slash."""
+"""What such a server may take for a separator: some accept a backslash as a slash."""
 
 OF_ONE_DOCUMENT = ("_doc", "_create", "_update", "_source", "_explain", "_termvectors")
-"""Second parts of a path whose third and last one is the id of a document, which may have slashes."""
+"""The second parts of paths whose third and last part is the id of a document, which may contain slashes."""
 
 
 class Paths:
-    """How the paths of requests lead to the cluster: the parts that stand before those of OpenSearch, and
-    whether all are passed on as they were sent. (Two with the same members are two, so that each is
-    remembered by what it is and not by what it holds.)
-    """
+    """How the paths of requests lead to the cluster: the prefix before OpenSearch's own parts, and whether
+    all paths are passed on unchanged. (Instances are compared by identity, which makes cached lookups
+    cheap.)"""
 
     __slots__ = ("_prefix", "are_unchanged")
 
@@ -34,41 +32,40 @@ class Paths:
         self.are_unchanged = are_unchanged
 
     def own(self, parts: List[str]) -> List[str]:
-        """The parts of a path behind those that stand before OpenSearch's; all of them if it doesn't begin
-        so."""
+        """Returns the parts of a path after the prefix; all of them if it doesn't begin with the prefix."""
         count = len(self._prefix)
         return parts[count:] or [""] if count and parts[:count] == self._prefix else parts
 
 
 AS_SENT = Paths()
-"""Paths with nothing before them."""
+"""Paths without a prefix."""
 
 
 def path_of(target: str) -> str:
-    """The path of a request's target, which may be a whole address."""
+    """Returns the path of a request's target, which may be a complete URL."""
     path, _, _ = target.partition("?")
     return path if path.startswith("/") else "/" + path.partition("://")[2].partition("/")[2]
 
 
 def parts_of(path: str, faults: str) -> List[str]:
-    """The parts of a path as OpenSearch takes them. It drops all slashes at the end."""
+    """Returns the parts of a path as OpenSearch reads them. It ignores slashes at the end."""
     parts = path.rstrip("/")[1:].split("/")
     return [text_of(it, faults) for it in parts] if "%" in path else parts
 
 
 def text_of(part: str, faults: str) -> str:
-    """The text of a part of a path."""
+    """Returns a part of a path, decoded."""
     return urllib.parse.unquote(part, errors=faults) if "%" in part else part
 
 
 def has_dots(path: str, faults: str) -> bool:
-    """Whether a part of a path is `.` or `..`, however it is spelled."""
+    """Returns whether a part of a path is `.` or `..`, encoded or not."""
     return any(it in (".", "..") for it in SEPARATORS.split(text_of(path, faults)))
 
 
 def normalised_parts(path: str, faults: str) -> Optional[List[str]]:
-    """The parts that a path without dots has if it is decoded as a whole; None if that changes nothing before
-    the id of a document."""
+    """Returns the parts of a path without dots if it is decoded as a whole; None if that changes nothing
+    before the id of a document."""
     sent = path.rstrip("/")[1:].split("/")
     if (
         len(sent) == 3

@@ -1,7 +1,7 @@
-"""What requests ask, as far as their first line tells it: which document of which index, or what else they
-may change.
+"""What a request does, by its method and target: to which document of which index, or what else it may
+change.
 
-Requests that write, and of which it isn't known what they write, are never taken for harmless.
+Requests that write, and of which it isn't known what they write, are never regarded as harmless.
 """
 
 import functools
@@ -19,29 +19,29 @@ from .paths import AS_SENT, MAY_CHANGE, Paths, has_dots, normalised_parts, parts
 
 
 class RouteKind(Enum):
-    """What a recorder does with a request before it passes it on."""
+    """What the recorder does with a request before it is passed on."""
 
     PASS = "nothing"
     CALL = "records a call on one document"
-    NEW = "records the write of a document whose id the answer tells"
+    NEW = "records a write whose id comes with the answer"
     UPDATE = "records an update of one document"
-    BULK = "reads the items of a bulk request"
-    MULTIPLE_GET = "reads the documents of a get of several"
-    UNJUDGED = "judges the document no longer"
-    SWEEP = "judges no document that was seen before the answer"
+    BULK = "records the items of a bulk request"
+    MULTIPLE_GET = "records a multi-get"
+    UNJUDGED = "stops judging the document"
+    SWEEP = "stops judging all documents that are seen before the answer"
     CHECK_BODY = "ends the recording if the body says that it may change documents of the index"
     END = "ends the recording"
-    MAKE = "takes it for one that may make the index, and changes no document"
-    NODES = "warns that who asks may go around the recorder"
+    MAKE = "nothing, but the request may create the index"
+    NODES = "warns that the client may bypass the proxy"
 
 
 CALL, BULK, SWEEP = RouteKind.CALL, RouteKind.BULK, RouteKind.SWEEP
-"""The kinds that each request is asked for. An Enum takes long to find a member by its name."""
+"""These kinds have names of their own, since looking up a member of an Enum by its name is slow."""
 
 
 class Route(NamedTuple):
-    """What is asked: for a call its operation, document and words; for several calls the index that the path
-    names; for a look how the body is looked at; for an end the reason."""
+    """What a request does. For a call the operation, the id and the parameters; for several calls the index
+    in the path; how to check the body; and the reason if the recording ends."""
 
     kind: RouteKind
     op: str = ""
@@ -55,23 +55,23 @@ class Route(NamedTuple):
 PASS = Route(RouteKind.PASS)
 
 NODES = Route(RouteKind.NODES)
-"""What asks for the addresses of the nodes, and may then ask these and not the recorder."""
+"""Requests for the addresses of the nodes, after which a client may bypass the proxy."""
 
 OF_STATISTICS = {"stats", "usage", "hot_threads"}
-"""What is asked of nodes without their addresses."""
+"""Requests about nodes that don't return addresses."""
 
 
 MOST_REMEMBERED = 8192
-"""Of how many first lines it is remembered what they ask."""
+"""How many routes are cached."""
 
 LONGEST_REMEMBERED = 256
-"""The most bytes of the target of such a line."""
+"""The maximum length in bytes of the target of a cached route."""
 
 LONGEST_WHY = 200
-"""The most letters of a request in a reason."""
+"""The maximum length of a request in a reason."""
 
 PLAIN_QUERY = re.compile(r"\w+=\w*(?:&\w+=\w*)*", re.ASCII)
-"""A query in which nothing is encoded."""
+"""Matches a query in which nothing is encoded."""
 
 
 READS = ("GET", "HEAD", "OPTIONS")
@@ -101,17 +101,17 @@ HARMLESS_OF_AN_INDEX = {
         "_pit",
     ),
 }
-"""First words behind an index of requests that change none of its documents."""
+"""Requests on an index that change none of its documents, by the part after the index."""
 
 OF_SETTINGS = ("_settings", "_mapping", "_mappings")
-"""First words behind an index of requests that change its settings or its mapping."""
+"""Requests on an index that change its settings or its mapping."""
 
 RESIZES = ("_clone", "_split", "_shrink")
-"""Requests that make another index of one, and leave that one as it is."""
+"""Requests that make another index from one, which stays as it is."""
 
 MAKES_ANOTHER = (*RESIZES, "_rollover")
 NAMES_AN_ALIAS = ("_alias", "_aliases")
-"""First words behind another index of requests that make one more, or give it an alias."""
+"""Requests on another index that create one, or give it an alias."""
 
 MEANS_NOTHING = {
     *(
@@ -126,11 +126,10 @@ MEANS_NOTHING = {
     ),
     *("master_timeout", "cluster_manager_timeout", "require_alias", "include_type_name"),
 }
-"""Words of a query that don't change what a call means."""
+"""Parameters that don't change what a call means."""
 
 OF_A_KIND = ("_bulk", "_delete_by_query", "_update_by_query", "_mapping", "_mappings")
-"""Last words of a path behind an index and a kind of documents, as older servers take them; to others they
-are ids."""
+"""Last parts of a path after an index and a type, as older servers accept them; for others they are ids."""
 
 
 OF_A_WRITE = MEANS_NOTHING | {
@@ -151,7 +150,7 @@ OF_AN_UPDATE = (OF_A_WRITE - {"op_type"}) | {
     "lang",
 }
 OF_AN_ITEM = {"_index", "_type", "_id", "op_type", "batch_size", *OF_AN_UPDATE}
-"""What may stand in the action of a bulk request's item, or in the query of the whole request."""
+"""The members of the action of a bulk request's item, and the parameters of the request."""
 
 PARTS_OF_A_SOURCE = {
     "_source",
@@ -169,15 +168,15 @@ OF_A_GET = (
 
 
 def route_of(method: str, target: bytes, names: Names, paths: Paths = AS_SENT) -> Route:
-    """Reads the first line of a request."""
+    """Returns the route of a request."""
     if len(target) <= LONGEST_REMEMBERED:
         return remembered_route(method, target, names, paths)
     return read_route(method, target, names, paths)
 
 
 def read_route(method: str, target: bytes, names: Names, paths: Paths) -> Route:
-    """Reads the first line of a request. A write whose target servers read in several ways is none that can
-    be told."""
+    """Returns the route of a request. A write whose target servers may read differently ends the
+    recording."""
     try:
         return route_of_text(method, target.decode("ascii"), names, paths, "strict")
     except UnicodeDecodeError:
@@ -194,11 +193,11 @@ def read_route(method: str, target: bytes, names: Names, paths: Paths) -> Route:
 
 
 remembered_route = functools.lru_cache(maxsize=MOST_REMEMBERED)(read_route)
-"""The same, remembered."""
+"""The same, cached."""
 
 
 def route_of_text(method: str, target: str, names: Names, paths: Paths, faults: str) -> Route:
-    """Reads a first line whose target is this text."""
+    """Returns the route for the text of a target."""
     path, parameters = path_of(target), parameters_of(target.partition("?")[2], faults)
     route = route_of_parts(method, paths.own(parts_of(path, faults)), parameters, names)
     if paths.are_unchanged or not MAY_CHANGE.search(path):
@@ -212,14 +211,14 @@ def route_of_text(method: str, target: str, names: Names, paths: Paths, faults: 
         ):
             return route
     if method in READS:
-        # (it may show another document than the one that it names)
+        # (it may return another document than the one that it names)
         return PASS
     why = "a path that a server on the way may normalise (see --paths-unchanged)"
     return Route(RouteKind.END, why=f"{shown_request(method, path)}, {why}")
 
 
 def route_of_parts(method: str, texts: List[str], parameters: Dict[str, str], names: Names) -> Route:
-    """Reads a request by the parts of its path and the words of its query."""
+    """Returns the route for the parts of a path and the parameters."""
     first, rest = texts[0], texts[1:]
     if "_bulk" in texts[:-1] and method not in READS:
         return Route(
@@ -241,19 +240,19 @@ def route_of_parts(method: str, texts: List[str], parameters: Dict[str, str], na
 
 
 def asks_for_nodes(first: str, rest: List[str]) -> bool:
-    """Whether a request asks for the addresses of the nodes, as clients do that look for them (sniffing)."""
+    """Returns whether a request asks for the addresses of the nodes, as clients do that sniff."""
     if first == "_nodes":
         return not OF_STATISTICS & set(rest)
     return first == "_cat" and rest[:1] == ["nodes"] or first == "_cluster" and rest[:1] == ["state"]
 
 
 def shown_request(method: str, path: str) -> str:
-    """A request as it stands in a reason."""
+    """Returns a request as it is shown in a reason."""
     return f"{method[:20]} {path[:LONGEST_WHY]}{'...' if len(path) > LONGEST_WHY else ''}"
 
 
 def parameters_of(query: str, faults: str) -> Dict[str, str]:
-    """The words of a query; of a word that comes twice the last one counts."""
+    """Returns the parameters of a query; of a duplicate one the last value."""
     if not query:
         return {}
     if PLAIN_QUERY.fullmatch(query):
@@ -264,7 +263,7 @@ def parameters_of(query: str, faults: str) -> Dict[str, str]:
 def route_on_index(
     method: str, name: str, rest: List[str], parameters: Dict[str, str], names: Names
 ) -> Route:
-    """Reads a request on the index."""
+    """Returns the route of a request on the index."""
     if name in names.routed:
         parameters = {"routing": name, **parameters}
     first = rest[0] if rest else ""
@@ -273,14 +272,14 @@ def route_on_index(
         return route_on_document(method, first, rest[1], parameters)
     request = shown_request(method, "/".join(["", name, *rest]))
     if is_of_a_kind:
-        return Route(RouteKind.END, why=f"{request}, which is a document to one server and to another is not")
+        return Route(RouteKind.END, why=f"{request}, which only some servers read as a document")
     if rest[-1:] in (["_bulk"], ["_mget"]):
         return route_of_several(method, name, rest, parameters)
     if method in READS:
         return PASS
     if first == "_doc" and len(rest) == 1 and method == "POST":
         route = route_of_write(RouteKind.NEW, "index", "", parameters)
-        # (servers take the id of the query, or make one)
+        # (servers use the id in the query, or generate one)
         return (
             route._replace(op="new", id=parameters["id"])
             if route.kind is RouteKind.UNJUDGED and "id" in parameters
@@ -307,7 +306,7 @@ def route_on_index(
 
 
 def route_on_document(method: str, endpoint: str, id: str, parameters: Dict[str, str]) -> Route:
-    """Reads a request on one document of the index."""
+    """Returns the route of a request on one document of the index."""
     if method in ("GET", "HEAD") and endpoint == "_doc":
         return Route(RouteKind.CALL, "get", id, parameters) if asks_for_latest(parameters, OF_A_GET) else PASS
     if method in ("PUT", "POST"):
@@ -322,8 +321,8 @@ def route_on_document(method: str, endpoint: str, id: str, parameters: Dict[str,
 
 
 def asks_for_latest(parameters: Mapping[str, object], known: "set[str]") -> bool:
-    """Whether a get has known words alone, and asks any copy, or the primary, for its latest. Another copy
-    that is chosen, or one that isn't asked for its latest, may rightly lag behind."""
+    """Returns whether a get has only known parameters, and asks any copy, or the primary, for the latest
+    version. Other copies, and gets without `realtime`, may be stale."""
     is_latest = (
         parameters.get("realtime", "true") in (True, "true")
         and parameters.get("preference", PRIMARY) == PRIMARY
@@ -332,7 +331,7 @@ def asks_for_latest(parameters: Mapping[str, object], known: "set[str]") -> bool
 
 
 def route_of_write(kind: RouteKind, op: str, id: str, parameters: Mapping[str, str]) -> Route:
-    """Reads a write of one document."""
+    """Returns the route of a write of one document."""
     op_type = parameters.get("op_type", op).lower()
     if op != "delete" and op_type in ("index", "create"):
         op = "create" if "create" in (op, op_type) else op
@@ -342,8 +341,8 @@ def route_of_write(kind: RouteKind, op: str, id: str, parameters: Mapping[str, s
 
 
 def checked(route: Route, known: "set[str]") -> Route:
-    """The route of a write whose words are known ones; of another one nothing can be told. A pipeline may
-    write anything."""
+    """Returns the route of a write, if its parameters are known; otherwise its document isn't judged. A
+    pipeline may write anything."""
     parameters = route.parameters
     if parameters.get("pipeline", "_none") != "_none":
         return Route(RouteKind.END, why=f"a write with pipeline={parameters['pipeline'][:LONGEST_WHY]}")
@@ -356,7 +355,7 @@ def checked(route: Route, known: "set[str]") -> Route:
 
 
 def route_of_several(method: str, first: str, rest: List[str], parameters: Dict[str, str]) -> Route:
-    """Reads the first line of a request on several documents, whichever indexes they are of."""
+    """Returns the route of a request on several documents, of any indexes."""
     last = rest[-1] if rest else first
     index = first if rest else ""
     if last == "_mget":
@@ -374,7 +373,7 @@ def route_of_several(method: str, first: str, rest: List[str], parameters: Dict[
 def route_of_cluster(
     method: str, first: str, rest: List[str], parameters: Dict[str, str], names: Names
 ) -> Route:
-    """Reads a request that writes something and names no index in its path."""
+    """Returns the route of a write without an index in its path."""
     check = body_check_of([first, *rest], names)
     request = shown_request(method, "/".join(["", first, *rest]))
     if check is None:
@@ -389,8 +388,8 @@ def route_of_cluster(
 def route_on_other(
     method: str, index: str, rest: List[str], parameters: Dict[str, str], names: Names
 ) -> Route:
-    """Reads a request that writes something on another index: it may make one by a name of ours, or give it
-    an alias that is one."""
+    """Returns the route of a write on another index, which may create an index with one of our names, or give
+    it as an alias."""
     word = rest[0] if rest else ""
     if word not in MAKES_ANOTHER and (word not in NAMES_AN_ALIAS or method not in ("PUT", "POST")):
         return PASS
@@ -401,7 +400,7 @@ def route_on_other(
 
 
 def route_of_expression(method: str, expression: str, rest: List[str], parameters: Dict[str, str]) -> Route:
-    """Reads a request that writes something on indexes that an expression names, ours perhaps among them."""
+    """Returns the route of a write on an index expression that may include our index."""
     request = shown_request(method, "/".join(["", expression, *rest]))
     if rest and rest[0] in OF_SETTINGS:
         return Route(RouteKind.CHECK_BODY, parameters=parameters, check=BodyCheck.SETTINGS, why=request)

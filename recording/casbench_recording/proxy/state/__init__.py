@@ -1,2 +1,2 @@
-"""What the proxy knows of documents: which of them are judged, their versions, and the list of those that
-aren't."""
+"""What the proxy knows of documents: which are judged, their versions, and the list of those that aren't
+judged."""

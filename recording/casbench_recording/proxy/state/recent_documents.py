@@ -1,9 +1,9 @@
-"""Which documents a recorder keeps: those that were asked for last, up to a number. Of the others it is known
-that they aren't judged.
+"""Keeps the most recently used documents, up to a number. Of the others only the ids are kept, in a set of
+fixed size.
 
-Documents are kept in two generations, and each that is asked for belongs to the younger one. When that is
-full the older one has no document that was asked for since it was the younger: these are given up, few at a
-time, and it becomes the older one.
+Documents are kept in two generations. A document that is used moves to the younger one. When that is full,
+the older one contains only documents that weren't used since: they are dropped, a few at a time, and the
+younger one becomes the older.
 """
 
 import mmap
@@ -12,24 +12,25 @@ from typing import Dict, Iterator, Optional
 from .documents import Document
 
 MOST_KEPT = 200_000
-"""How many documents are kept, unless another number is named."""
+"""The default number of documents that are kept."""
 
 AT_ONCE = 2
-"""How many documents are given up for each that is asked for, so that all are before there are more."""
+"""How many documents are dropped for each one that is added, so that all are gone before the next generation
+is full."""
 
 BITS = 28
-"""The set of documents that aren't judged has 2 to the power of this many bits, which are 32 MiB."""
+"""The binary logarithm of the number of bits of the set of ids: 32 MiB."""
 
 PROBES = 4
-"""How many bits of it a document sets."""
+"""How many bits of it an id sets."""
 
 
 class DroppedIds:
-    """A set of ids, in memory that doesn't grow. It has each that was added, and by chance others too: with
-    ten million ids one of 2,700, with thirty million one of 59."""
+    """A set of ids of fixed size (a Bloom filter). It contains each id that was added, and by chance others:
+    with ten million ids one in 2,700, with thirty million one in 59."""
 
     def __init__(self) -> None:
-        # (the system gives a page of it once a bit there is set; a bytearray would take all of it at once)
+        # (memory is allocated page by page as bits are set; a bytearray would take all of it at once)
         self._bits = mmap.mmap(-1, 1 << BITS - 3, flags=mmap.MAP_PRIVATE)
 
     def add(self, id: str) -> None:
@@ -42,7 +43,7 @@ class DroppedIds:
 
 
 def bits_of(id: str) -> Iterator[int]:
-    """The bits that an id sets. Who chooses ids can't know them: the hash of a text is another one in each
+    """Returns the bits of an id. A client can't predict them, since the hash of a text is different in each
     process."""
     number = hash(id) % (1 << 64)
     first, step = number >> 32, number & 0xFFFF_FFFF | 1
@@ -53,16 +54,16 @@ class RecentDocuments:
     """The documents that are kept, by their ids."""
 
     def __init__(self, most: Optional[int] = None) -> None:
-        # how many a generation has (None if all are kept)
+        # the size of a generation (None if all documents are kept)
         self._most = most // 2 if most is not None else None
         self._young: Dict[str, Document] = {}
         self._old: Dict[str, Document] = {}
-        # those that are given up next, and those that are now
+        # those that are dropped next, and those that are dropped now
         self._leaving: Dict[str, Document] = {}
         self.given_up: Dict[str, Document] = {}
 
     def get(self, id: str) -> Optional[Document]:
-        """The document, if it is kept. It is one that was asked for then."""
+        """Returns the document, if it is kept, as the most recently used one."""
         document = self._young.get(id)
         if document is None and self._most is not None:
             document = self._old.pop(id, None) or self._leaving.pop(id, None) or self.given_up.pop(id, None)
@@ -71,7 +72,7 @@ class RecentDocuments:
         return document
 
     def add(self, document: Document) -> None:
-        """Keeps a document."""
+        """Adds a document."""
         self._young[document.id] = document
         if self._most is None:
             return
@@ -82,14 +83,14 @@ class RecentDocuments:
             self._young, self._old, self._leaving = {}, self._young, self._old
 
     def pop(self, id: str) -> Optional[Document]:
-        """The document, which is kept no longer, or None if it isn't kept."""
+        """Removes and returns the document, or None if it isn't kept."""
         for generation in (self._young, self._old, self._leaving, self.given_up):
             if id in generation:
                 return generation.pop(id)
         return None
 
     def values(self) -> Iterator[Document]:
-        """The documents."""
+        """Yields the documents."""
         for generation in (self._young, self._old, self._leaving, self.given_up):
             yield from generation.values()
 
