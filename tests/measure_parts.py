@@ -25,7 +25,7 @@ from recordings import environment
 
 from casbench_recording.history import History, Pair
 from casbench_recording.history.continuing import Continuing
-from casbench_recording.index_inspection import Shape
+from casbench_recording.index_inspection import IndexShape
 from casbench_recording.index_names import Names
 from casbench_recording.proxy.recording.judge import Judge
 from casbench_recording.proxy.state.unjudged_list import UnjudgedList
@@ -43,7 +43,7 @@ def memory(process="self"):
 
 def judge_of_parts(out):
     """A judge that records in parts."""
-    return Judge(Shape("carts", Names(["carts"], []), 1, 1, True), "carts", Continuing(out, PART), UnjudgedList(out))
+    return Judge(IndexShape("carts", Names(["carts"], []), 1, 1, True), "carts", Continuing(out, PART), UnjudgedList(out))
 
 
 class Turns:
@@ -59,8 +59,8 @@ class Turns:
             if self.kind == "written":
                 judged_turn(self.judge, turn, id, True)
             else:
-                asked = self.judge.requests.ask(self.judge.route("GET", f"/carts/_doc/{id}".encode()), "GET", b"")
-                self.judge.answers.answered(asked, 404, b'{"_index":"carts","_id":"%s","found":false}' % id.encode(), None)
+                asked = self.judge.requests.record(self.judge.route("GET", f"/carts/_doc/{id}".encode()), "GET", b"")
+                self.judge.answers.record(asked, 404, b'{"_index":"carts","_id":"%s","found":false}' % id.encode(), None)
         self.made += count
 
 
@@ -86,8 +86,8 @@ def judged_turn(judge, turn, id, is_new):
     written = head + '"result":"%s","_shards":{"total":1,"successful":1,"failed":0},%s}' % (result, pair)
     found = head + '%s,"found":true,"_source":%s}' % (pair, source.decode())
     for method, content, answer in (("PUT", source, (status, written)), ("GET", b"", (200, found))):
-        asked = judge.requests.ask(judge.route(method, f"/carts/_doc/{id}".encode()), method, content)
-        judge.answers.answered(asked, answer[0], answer[1].encode(), None)
+        asked = judge.requests.record(judge.route(method, f"/carts/_doc/{id}".encode()), method, content)
+        judge.answers.record(asked, answer[0], answer[1].encode(), None)
 
 
 def measure_memory(program, folder, calls):

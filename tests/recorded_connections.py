@@ -27,7 +27,7 @@ from recordings import FolderTest
 
 from casbench_recording.history import History
 from casbench_recording.history.format import counting_members
-from casbench_recording.index_inspection import Shape
+from casbench_recording.index_inspection import IndexShape
 from casbench_recording.index_names import Names
 from casbench_recording.proxy.http.client_side import ClientSide
 from casbench_recording.proxy.http.connecting import Addresses, Connecting
@@ -334,7 +334,7 @@ class Pieces(FolderTest):
 
     def sides(self, path):
         """The two sides of a proxy that writes a history, and its judge."""
-        shape = Shape("carts", Names(["carts"], []), 1, 512, True)
+        shape = IndexShape("carts", Names(["carts"], []), 1, 512, True)
         judge = Judge(shape, "carts", History(path, clock=lambda: 0.0), UnjudgedList(path))
         soon = []
         proxy = SimpleNamespace(loop=SimpleNamespace(soon=soon.append, now=0.0), judge=judge, clients=set())

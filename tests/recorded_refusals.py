@@ -87,7 +87,7 @@ class Refused(JudgeTest):
 
     def answer(self, judge, asked, answer, length=None):
         if answer is not LOST and isinstance(answer[1], bytes):
-            judge.answers.answered(asked, *answer, length)
+            judge.answers.record(asked, *answer, length)
         else:
             super().answer(judge, asked, answer, length)
 

@@ -20,7 +20,7 @@ from casbench_recording.cluster import ClusterAnswer, ClusterError
 from casbench_recording.history import History, HistoryError
 from casbench_recording.history.by_shard import Parts
 from casbench_recording.history.continuing import MOST_LOST, Continuing
-from casbench_recording.index_inspection import Inspector, Shape
+from casbench_recording.index_inspection import Inspector, IndexShape
 from casbench_recording.index_names import Names
 from casbench_recording.proxy.recording.answer_recorder import AnswerRecorder
 from casbench_recording.proxy.recording.judge import Judge, Passed
@@ -64,7 +64,7 @@ class JudgeTest(FolderTest):
         """A judge that writes the history of the test."""
         if shape is not None:
             names = Names(names.get("names", ["carts", "shop"]), names.get("routed", []))
-            shape = Shape("carts", names, shards, shards * 512, True)
+            shape = IndexShape("carts", names, shards, shards * 512, True)
         self.history, self.numbers = history or History(self.file), Numbers()
         self.addCleanup(self.history.end)
         unjudged = UnjudgedList(self.file)
@@ -77,7 +77,7 @@ class JudgeTest(FolderTest):
         if not isinstance(source, bytes):
             lines = source if isinstance(source, list) else [source] if source is not None else []
             content = b"".join(json.dumps(it).encode() + b"\n" for it in lines)
-        return judge.requests.ask(judge.route(method, target.encode()), method, content)
+        return judge.requests.record(judge.route(method, target.encode()), method, content)
 
     def answer(self, judge, asked, answer, length=None):
         """Hands in the answer to it, or that there is none."""
@@ -86,7 +86,7 @@ class JudgeTest(FolderTest):
         if answer is LOST:
             judge.lost(asked)
         else:
-            judge.answers.answered(asked, answer[0], json.dumps(answer[1]).encode(), length)
+            judge.answers.record(asked, answer[0], json.dumps(answer[1]).encode(), length)
 
     def talk(self, judge, *turns):
         """Hands in requests, each with its answer behind it: a method with a target, a source or not, the answer."""
@@ -319,7 +319,7 @@ class Calls(JudgeTest):
     def test_an_answer_that_is_no_text_is_lost(self):
         judge = self.judge()
         asked = self.ask(judge, "GET", "/carts/_doc/d")
-        judge.answers.answered(asked, 200, None, None)
+        judge.answers.record(asked, 200, None, None)
         self.assertEqual(self.ended(judge), ["0 get d", "0 lost"])
 
     def test_an_answer_of_another_document(self):
@@ -351,7 +351,7 @@ class Calls(JudgeTest):
     def test_heads_tell_a_document_that_is_missing_by_its_length(self):
         judge, length = self.judge(), len('{"_index":"carts","_id":"é","found":false}'.encode())
         for status, length_of_head in ((404, length), (404, length + len(',"_type":"_doc"')), (404, length + 1), (404, None), (200, length)):
-            judge.answers.answered(self.ask(judge, "HEAD", "/carts/_doc/%C3%A9"), status, b"", length_of_head)
+            judge.answers.record(self.ask(judge, "HEAD", "/carts/_doc/%C3%A9"), status, b"", length_of_head)
         self.ended(judge)
         bodies = [it.get("body") for it in self.lines() if it["e"] == "reply"]
         self.assertEqual(bodies, [{"found": False}] * 2 + [{}] * 3)
@@ -538,7 +538,7 @@ class Several(JudgeTest):
         for body in bodies:
             judge = self.judge()
             get = self.ask(judge, "GET", "/carts/_doc/d")
-            self.assertIsNone(judge.requests.ask(judge.route("POST", b"/carts/_bulk"), "POST", body))
+            self.assertIsNone(judge.requests.record(judge.route("POST", b"/carts/_bulk"), "POST", body))
             self.assertIn("bulk request", self.names()["ended"])
             self.answer(judge, get, missing())
             self.assertIs(judge.route("GET", b"/carts/_doc/d").kind, RouteKind.PASS)
@@ -691,7 +691,7 @@ class NotJudged(JudgeTest):
         get = self.ask(judge, "GET", "/carts/_doc/d")
         route, new = judge.route("PUT", b"/carts/_doc/d"), self.ask(judge, "POST", "/carts/_doc", {})
         self.talk(judge, ("DELETE /carts", None, (200, {})))
-        self.assertIsNone(judge.requests.ask(route, "PUT", b"{}"))
+        self.assertIsNone(judge.requests.record(route, "PUT", b"{}"))
         self.answer(judge, get, missing())
         self.answer(judge, new, written(0, id=MADE + "x"))
         self.assertEqual(self.ended(judge), ["0 get d", "0 lost"])
@@ -716,8 +716,8 @@ class NotJudged(JudgeTest):
         lines = [{"delete": {"_id": "d"}}, {"delete": {"_id": "e"}}, {"index": {}}, {"a": 1}]
         ids = [it and it.id for it in self.ask(judge, "POST", "/carts/_bulk", lines).parts]
         self.assertEqual(ids, [None, "e", ""])
-        bulk = judge.requests.ask_in_pieces(judge.route("POST", b"/carts/_bulk"))
-        judge.requests.take_items(bulk, b'{"index":{}}\n{"a":1}\n{"delete":{"_id":"e"}}\n', True, has_room=False)
+        bulk = judge.requests.begin_bulk(judge.route("POST", b"/carts/_bulk"))
+        judge.requests.record_items(bulk, b'{"index":{}}\n{"a":1}\n{"delete":{"_id":"e"}}\n', True, has_room=False)
         self.assertEqual([it and it.id for it in bulk.parts], [None, "e"])
 
     def test_a_history_that_is_full(self):
@@ -839,14 +839,14 @@ class NotEmpty(JudgeTest):
         judge = self.judge(shape=None)
         self.talk(judge, ("GET /carts/_doc/d", None, NOT_THERE), ("PUT /carts/_doc/d", {}, written(0)))
         for is_empty in (True, False):
-            judge.found(Shape("carts-1", Names(["carts", "carts-1"], []), 1, 1, is_empty), [])
+            judge.found(IndexShape("carts-1", Names(["carts", "carts-1"], []), 1, 1, is_empty), [])
         self.talk(judge, ("GET /carts/_doc/d", None, found(0, {})), ("PUT /carts-1/_doc/e", {}, written(1, id="e", _index="carts-1")))
         self.assertEqual(self.ended(judge), ["0 index e k=2", "0 201 created 1/1"])
         self.assertEqual(self.names(), {"d": "it was written before the index was inspected"})
 
 
     def test_an_index_that_is_found_while_others_write(self):
-        shape = Shape("carts-1", Names(["carts", "carts-1", "shop"], []), 1, 1, True)
+        shape = IndexShape("carts-1", Names(["carts", "carts-1", "shop"], []), 1, 1, True)
         judge = self.judge(shape=None)
         others = [("PUT", b"/shop/_doc/d", True), ("POST", b"/_bulk", True), ("PUT", b"/x/_doc/d", False), ("GET", b"/shop", False)]
         for method, target, waits in others:

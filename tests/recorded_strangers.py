@@ -185,7 +185,7 @@ class Judged(JudgeTest):
         """Whether a request ends the recording."""
         judge = self.judge(names=["carts", *ALIASES])
         get = self.ask(judge, "GET", "/carts/_doc/d")
-        judge.requests.ask(judge.route(method, target.encode()), method, body_of(body) or b"")
+        judge.requests.record(judge.route(method, target.encode()), method, body_of(body) or b"")
         has_ended = judge.has_ended
         self.answer(judge, get, (404, {"_index": "carts", "_id": "d", "found": False}))
         self.assertEqual(self.ended(judge)[1:], ["0 lost" if has_ended else "0 404"])

@@ -1,4 +1,4 @@
-"""`Continuing`, a recording without end, under the name by which recorders import it."""
+"""`Continuing`, a recording without a limit, under the name by which recorders import it."""
 
 from .history.continuing import Continuing, TooManyLost
 

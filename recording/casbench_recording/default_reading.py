@@ -7,10 +7,10 @@ from .history.by_shard import Parts
 from .history.continuing import Continuing
 from .history.readings import OPENSEARCH, STRICT, Profile, Reading
 from .history.writing import Histories
-from .index_inspection import Shape
+from .index_inspection import IndexShape
 
 
-def reading_that_fits(shape: Shape, served: int) -> Reading:
+def reading_that_fits(shape: IndexShape, served: int) -> Reading:
     """Returns the reading that fits an index, if the proxy or the load uses `served` nodes.
 
     With replicas any copy may answer a get, and another copy may be promoted; between several nodes a write
@@ -19,7 +19,7 @@ def reading_that_fits(shape: Shape, served: int) -> Reading:
     return OPENSEARCH if shape.has_replicas or max(shape.nodes, served) > 1 else STRICT
 
 
-def reason_of(shape: Shape, served: int) -> str:
+def reason_of(shape: IndexShape, served: int) -> str:
     """Returns why the OpenSearch profile fits an index, in words."""
     if shape.has_replicas:
         copies = f"{shape.replicas} replica{'' if shape.replicas == 1 else 's'}"
@@ -46,7 +46,7 @@ class DefaultReading:
         # called with the reading of the recording, if it differs from the first one
         self.on_reading: Callable[[Reading], object] = lambda reading: None
 
-    def take(self, shape: Shape, report: Callable[[str], object]) -> None:
+    def take(self, shape: IndexShape, report: Callable[[str], object]) -> None:
         """Takes the description of the index, before its first call. Reports which check fits, unless it is
         the strict one."""
         if reading_that_fits(shape, self._served) == OPENSEARCH:

@@ -34,7 +34,7 @@ class RightMissing(ClusterError):
     """The user lacks the right for a request."""
 
 
-class Shape(NamedTuple):
+class IndexShape(NamedTuple):
     """An index: its own name and all names by which it is reached; its shards; whether nothing was ever
     written to it, and how many changes its documents had; its replicas, whether their number follows that of
     the nodes, and the replication type; and the number of nodes of the cluster, as far as the user may
@@ -67,13 +67,13 @@ class Inspector:
     def __init__(self, connection: Connection) -> None:
         self.connection = connection
 
-    def inspect(self, name: str) -> Optional[Shape]:
+    def inspect(self, name: str) -> Optional[IndexShape]:
         """Returns the description of an index, or None if there is none. Raises ClusterError if it can't be
         judged, or if the cluster doesn't answer in time."""
         with self.connection.within(SECONDS):
             return self.look(name)
 
-    def look(self, name: str) -> Optional[Shape]:
+    def look(self, name: str) -> Optional[IndexShape]:
         """The same without a limit of time."""
         answer = self.ask(f"/{quoted(name)}", Right.SHAPE)
         if answer is None:
@@ -88,7 +88,7 @@ class Inspector:
                 f"the cluster's description of {name} isn't that of OpenSearch: {fault!r}"
             ) from fault
 
-    def shape(self, name: str, index: str, described: Dict[str, Any]) -> Shape:
+    def shape(self, name: str, index: str, described: Dict[str, Any]) -> IndexShape:
         """Returns the description of an index, by its name in the request, its own name, and the cluster's
         answer."""
         settings = flattened(described["settings"]["index"])
@@ -104,7 +104,7 @@ class Inspector:
         copies = (replicas, is_expanding, settings.get("replication.type", "DOCUMENT"))
         # (a real cluster always has this setting; with replicas the number of nodes doesn't matter)
         nodes = self.nodes() if settings.get("number_of_replicas") == "0" and not is_expanding else 1
-        shape = Shape(index, names, shards, routing_shards, changes == 0, changes, *copies, nodes)
+        shape = IndexShape(index, names, shards, routing_shards, changes == 0, changes, *copies, nodes)
         self.compare_shards(shape)
         return shape
 
@@ -144,7 +144,7 @@ class Inspector:
             raise ClusterError(f"the cluster answered GET {path} with HTTP {answer.status}")
         return answer.members
 
-    def has(self, shape: Shape, id: str) -> bool:
+    def has(self, shape: IndexShape, id: str) -> bool:
         """Returns whether a document exists."""
         return self.ask(f"/{quoted(shape.name)}/_doc/{quoted(id)}", Right.DOCUMENT) is not None
 
@@ -170,7 +170,7 @@ class Inspector:
         answer = self.ask(state_of(index), Right.STATE) or {}
         return int(answer["metadata"]["indices"][index]["routing_num_shards"])
 
-    def compare_shards(self, shape: Shape) -> None:
+    def compare_shards(self, shape: IndexShape) -> None:
         """Checks that shards are computed here as the cluster computes them."""
         for number in range(PROBES if shape.shards > 1 else 0):
             answer = self.ask(shards_of(shape.name, number), Right.SHARDS) or {}

@@ -172,7 +172,7 @@ def members_of_call(operation: Operation) -> str:
         members = f'{member_of_id(id)},"op":"{op}"'
     except TypeError as fault:
         raise CallError(f"an id is a text, and not {id!r}") from fault
-    # (the shifted value is 0 if the number has at most so many bits and isn't negative)
+    # (the shifted value is 0 if the number fits into these bits and isn't negative)
     if type(shard) is not int or shard >> 10:
         raise CallError(f"a shard is a whole number up to 1023, and not {shard!r}")
     if op in WRITES_A_VALUE:

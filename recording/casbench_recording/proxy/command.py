@@ -50,7 +50,7 @@ from casbench_recording.history.by_shard import Parts
 from casbench_recording.history.continuing import Continuing, add_part_options
 from casbench_recording.history.readings import add_reading_options, reading_of
 from casbench_recording.history.writing import Histories, History, HistoryError
-from casbench_recording.index_inspection import Inspector, Shape
+from casbench_recording.index_inspection import IndexShape, Inspector
 from casbench_recording.progress import Progress
 from casbench_recording.watch.process import (
     CAN_NOT_CHECK,
@@ -178,7 +178,7 @@ def parse_arguments(arguments: Sequence[str]) -> argparse.Namespace:
     return setting
 
 
-def begin(setting: argparse.Namespace, inspector: Inspector) -> Tuple[Optional[Shape], DocumentState]:
+def begin(setting: argparse.Namespace, inspector: Inspector) -> Tuple[Optional[IndexShape], DocumentState]:
     """Inspects the index; returns its description, and the state of documents that are seen for the first
     time. Refuses an index that isn't empty, unless an option allows it."""
     inspector.connection.open(setting.patience)

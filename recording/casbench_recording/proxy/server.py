@@ -13,7 +13,7 @@ from casbench_recording.default_reading import DefaultReading
 from casbench_recording.disturb import Disturbance
 from casbench_recording.history.readings import Reading, is_named
 from casbench_recording.http1 import Request
-from casbench_recording.index_inspection import Inspector, Shape
+from casbench_recording.index_inspection import IndexShape, Inspector
 from casbench_recording.watch.process import WatchProcess, watch_options
 
 from .http.client_connection import ClientConnection
@@ -130,7 +130,7 @@ class Proxy:
             self._found(self.judge.shape, lambda text: lines.append(f"casbench_recording.proxy: {text}"))
         return lines
 
-    def _found(self, shape: Shape, report: Callable[[str], object] = report_line) -> None:
+    def _found(self, shape: IndexShape, report: Callable[[str], object] = report_line) -> None:
         """Takes the description of the index: it decides which check fits, and when the recording begins. If
         others wrote to the index, it begins once their requests are over."""
         self.default_reading.take(shape, report)

@@ -60,13 +60,13 @@ class ServerConnection(asyncio.BufferedProtocol):
     def go_on(self) -> None:
         """Answers the next request, if it is complete. An invalid request ends the connection."""
         try:
-            if not self.is_busy and not self.transport.is_closing() and self.has_request():
+            if not self.is_busy and not self.transport.is_closing() and self.take_request():
                 self.is_busy = True
                 self.server.node.run(self.answer(cast(Request, self.request), cast(Body, self.body)))
         except BadMessage:
             self.transport.close()
 
-    def has_request(self) -> bool:
+    def take_request(self) -> bool:
         """Reads the request as far as it was received; returns whether it is complete."""
         if self.body is None:
             self.head, self.data = split_head(self.data)

@@ -76,13 +76,13 @@ class ClientConnection:
     def connection_made(self, made: Union[socket.socket, OSError]) -> None:
         """Takes the connection to the cluster, or the error if there is none."""
         if isinstance(made, OSError):
-            self.has_cluster(made)
+            self.cluster_connected(made)
         elif self.stream.is_closing:
             made.close()
         else:
             self.cluster = ClusterSide(self, made)
 
-    def has_cluster(self, fault: Optional[OSError]) -> None:
+    def cluster_connected(self, fault: Optional[OSError]) -> None:
         """Goes on when the cluster is connected, or answers the client that it can't be reached."""
         if fault is None:
             self.is_connected = True
@@ -93,7 +93,7 @@ class ClientConnection:
     def go_on(self) -> None:
         """Processes the data from the client as far as possible."""
         try:
-            while not self.stream.is_closing and self.has_step():
+            while not self.stream.is_closing and self.do_step():
                 pass
         except BadMessage as fault:
             self.close(
@@ -123,7 +123,7 @@ class ClientConnection:
 
     # Requests
 
-    def has_step(self) -> bool:
+    def do_step(self) -> bool:
         """Does the next step with the data from the client; returns whether there may be another one."""
         raise NotImplementedError
 
@@ -173,8 +173,8 @@ class ClientConnection:
             held += exchange.weight + (exchange.recorded.weight if exchange.recorded is not None else 0)
             held += len(exchange.answer) + (len(exchange.body.kept) if exchange.body is not None else 0)
             held += (
-                len(exchange.coming.held) + len(exchange.coming.body.kept)
-                if exchange.coming is not None
+                len(exchange.incoming.held) + len(exchange.incoming.body.kept)
+                if exchange.incoming is not None
                 else 0
             )
         if held != self.held:
@@ -193,7 +193,7 @@ class ClientConnection:
         if weight != self.last_weight:
             self.last_weight, self.active_at = weight, now
         if self.connecting is not None and not self.is_connected and now > self.connected_by:
-            self.has_cluster(TimeoutError(f"it took longer than {MOST_TO_CONNECT:.0f} seconds"))
+            self.cluster_connected(TimeoutError(f"it took longer than {MOST_TO_CONNECT:.0f} seconds"))
         elif now > self.active_at + most_idle and not self.waits_for_cluster():
             self.stream.abort()
 

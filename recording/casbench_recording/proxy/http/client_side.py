@@ -24,7 +24,7 @@ from casbench_recording.proxy.recording.recorded_requests import (
 from casbench_recording.proxy.routing.routes import BULK, CALL, NODES, PASS, READS, SWEEP, RouteKind
 
 from .client_connection import ClientConnection
-from .exchange import HELD, SENT, TAKING, WITH_ANSWER, Coming, ComingInPieces, Exchange
+from .exchange import HELD, SENT, TAKING, WITH_ANSWER, Exchange, IncomingBulkRequest, IncomingRequest
 
 FEW_PARTS = 16
 """Requests with at most this many parts are not accounted for."""
@@ -41,20 +41,20 @@ CONTINUE = b"HTTP/1.1 100 Continue\r\n\r\n"
 class ClientSide(ClientConnection):
     """The connection of a client, from which requests are read one by one."""
 
-    def has_step(self) -> bool:
+    def do_step(self) -> bool:
         """Does the next step with the data from the client; returns whether there may be another one."""
         exchange = self.exchange
         if exchange is None:
-            return self.has_request()
-        if exchange.state is not TAKING or exchange.coming is None:
+            return self.take_request()
+        if exchange.state is not TAKING or exchange.incoming is None:
             return False
-        if isinstance(exchange.coming, ComingInPieces):
+        if isinstance(exchange.incoming, IncomingBulkRequest):
             exchange.hold()
             self.proxy.work(
-                self.take_items(exchange, exchange.coming), functools.partial(self.go_on_with, exchange)
+                self.pass_on_items(exchange, exchange.incoming), functools.partial(self.go_on_with, exchange)
             )
         else:
-            self.take_piece(exchange, exchange.coming)
+            self.take_piece(exchange, exchange.incoming)
         return exchange.state is SENT
 
     def go_on_with(self, exchange: Exchange) -> None:
@@ -63,7 +63,7 @@ class ClientSide(ClientConnection):
         if not self.stream.is_closing and (self.data or self.stream.is_at_end):
             self.proxy.loop.soon(self.go_on)
 
-    def has_request(self) -> bool:
+    def take_request(self) -> bool:
         """Reads the head of a request, and all of it if it was received in one piece; returns whether there
         may be another step."""
         data = self.data
@@ -96,13 +96,13 @@ class ClientSide(ClientConnection):
         if length is not None and len(data) >= end + length and not (is_bulk and request.fields.encoding):
             whole = end + length
             self.data = data[whole:]
-            self.ask_and_send(exchange, data[end:whole], data[:whole], True)
+            self.record_and_send(exchange, data[end:whole], data[:whole], True)
             return False
         if is_bulk:
-            exchange.coming = ComingInPieces(data[:end], request.body(), request.fields.encoding)
-            exchange.recorded = judge.requests.ask_in_pieces(route, self.requester_of(request))
+            exchange.incoming = IncomingBulkRequest(data[:end], request.body(), request.fields.encoding)
+            exchange.recorded = judge.requests.begin_bulk(route, self.requester_of(request))
         else:
-            exchange.coming = Coming(data[:end], request.body(), route is not PASS)
+            exchange.incoming = IncomingRequest(data[:end], request.body(), route is not PASS)
         self.data = data[end:]
         return True
 
@@ -111,14 +111,19 @@ class ClientSide(ClientConnection):
         client = request.fields.opaque_id
         return Requester(client, self.node.name) if client else self.default_requester
 
-    def ask_and_send(
-        self, exchange: Exchange, content: Optional[bytes], data: bytes, is_all: bool, has_turn: bool = False
+    def record_and_send(
+        self,
+        exchange: Exchange,
+        content: Optional[bytes],
+        data: bytes,
+        is_all: bool,
+        is_its_turn: bool = False,
     ) -> None:
         """Has the calls of a request written, and passes it on. The content is None if it is too long to be
         read."""
         route, request, proxy = exchange.route, exchange.request, self.proxy
         if route is not PASS:
-            if proxy.discovery is not None and not has_turn and proxy.discovery.concerns(route, content):
+            if proxy.discovery is not None and not is_its_turn and proxy.discovery.concerns(route, content):
                 self.wait_for_turn(proxy.discovery, exchange, content, data, is_all)
                 return
             if route.kind is SWEEP:
@@ -131,7 +136,9 @@ class ClientSide(ClientConnection):
             if content and (request.fields.encoding or len(content) > MOST_READ):
                 content = decoded(content, request.fields.encoding, MOST_READ)
             requester = self.requester_of(request) if request.fields.opaque_id else self.default_requester
-            recorded = exchange.recorded = proxy.judge.requests.ask(route, request.method, content, requester)
+            recorded = exchange.recorded = proxy.judge.requests.record(
+                route, request.method, content, requester
+            )
             if recorded is not None and len(recorded.parts) > FEW_PARTS:
                 self.account()
         self.send(exchange, data, is_all)
@@ -148,9 +155,9 @@ class ClientSide(ClientConnection):
         exchange.hold()
         exchange.weight += len(data)
         self.account()
-        discovery.queue.wait_for(lambda: self.has_turn(discovery, exchange, content, data, is_all))
+        discovery.queue.wait_for(lambda: self.take_turn(discovery, exchange, content, data, is_all))
 
-    def has_turn(
+    def take_turn(
         self,
         discovery: IndexDiscovery,
         exchange: Exchange,
@@ -168,13 +175,13 @@ class ClientSide(ClientConnection):
             return
         if discovery.is_over or route.kind not in MAKERS or route.op == "get":
             discovery.queue.end()
-            self.ask_and_send(exchange, content, data, is_all, True)
+            self.record_and_send(exchange, content, data, is_all, True)
         else:
             plain = decoded(content, request.fields.encoding, MOST_READ) if content else content
             making = exchange.recorded = IndexMakingRequest(
                 route, request.method, plain, self.requester_of(request)
             )
-            discovery.makes(making, lambda: self.lose(exchange))
+            discovery.begin_making(making, lambda: self.lose(exchange))
             self.send(exchange, data, is_all)
         if exchange.state is not HELD:
             self.go_on_with(exchange)
@@ -193,57 +200,57 @@ class ClientSide(ClientConnection):
             exchange.send_all()
         discovery = self.proxy.discovery
         if discovery is not None and exchange.request.method not in READS:
-            discovery.passes(
+            discovery.note_passed(
                 exchange,
                 Passed(exchange.request.method, exchange.request.target, self.node.paths, exchange.route),
             )
         self.cluster.stream.write(data)
 
-    def take_piece(self, exchange: Exchange, coming: Coming) -> None:
+    def take_piece(self, exchange: Exchange, incoming: IncomingRequest) -> None:
         """Reads a part of a request, holds it back as long as its body has to be read, and passes it on."""
-        body = coming.body
+        body = incoming.body
         count = body.take(self.data)
         if count:
-            coming.held += self.data[:count]
+            incoming.held += self.data[:count]
             self.data = self.data[count:]
-        if coming.is_read:
-            if not body.is_done and len(coming.held) <= MOST_READ and self.proxy.has_room():
+        if incoming.is_read:
+            if not body.is_done and len(incoming.held) <= MOST_READ and self.proxy.has_room():
                 if exchange.request.fields.expects and not exchange.was_continued:
                     exchange.was_continued = True
                     self.stream.write(CONTINUE)
                 return
-            coming.is_read = body.is_kept = False
+            incoming.is_read = body.is_kept = False
             content = body.content()
-            self.ask_and_send(exchange, content if body.is_done else None, coming.taken(), body.is_done)
+            self.record_and_send(exchange, content if body.is_done else None, incoming.taken(), body.is_done)
         else:
-            self.send(exchange, coming.taken(), body.is_done)
+            self.send(exchange, incoming.taken(), body.is_done)
 
-    def take_items(self, exchange: Exchange, coming: ComingInPieces) -> Iterator[None]:
+    def pass_on_items(self, exchange: Exchange, incoming: IncomingBulkRequest) -> Iterator[None]:
         """Reads a part of a bulk request, in steps, and passes it on as far as the calls of its items are
         written."""
-        judge, body, recorded = self.proxy.judge, coming.body, exchange.recorded
+        judge, body, recorded = self.proxy.judge, incoming.body, exchange.recorded
         assert isinstance(recorded, RecordedBulkRequest)
         count = body.take(self.data)
         raw, self.data = self.data[:count], self.data[count:]
-        for number, plain in enumerate(coming.unpacking.slices(body.content(), body.is_done)):
+        for number, plain in enumerate(incoming.unpacker.slices(body.content(), body.is_done)):
             if number:
                 yield
                 if self.stream.is_closing:
                     return
-            judge.requests.take_items(recorded, plain, False, self.proxy.has_room())
-            coming.length += len(plain or b"")
+            judge.requests.record_items(recorded, plain, False, self.proxy.has_room())
+            incoming.length += len(plain or b"")
             self.account()
             if judge.has_ended:
                 break
-        coming.add(raw)
+        incoming.add(raw)
         if body.is_done:
-            judge.requests.take_items(recorded, b"", True)
+            judge.requests.record_items(recorded, b"", True)
             exchange.recorded = recorded if recorded.has_calls else None
         if not self.stream.is_closing:
             is_all = body.is_done or judge.has_ended
-            self.send(exchange, coming.ready(recorded.items.end, is_all), body.is_done)
+            self.send(exchange, incoming.ready(recorded.items.end, is_all), body.is_done)
         if judge.has_ended:
-            exchange.coming, exchange.recorded = Coming(b"", body, False), None
+            exchange.incoming, exchange.recorded = IncomingRequest(b"", body, False), None
 
     def answered(self) -> None:
         """Goes on with the next request after an answer was passed on."""
@@ -258,7 +265,7 @@ class ClientSide(ClientConnection):
             return
         self.lose(exchange)
         if discovery is not None:
-            discovery.never_answered(exchange)
+            discovery.note_never_answered(exchange)
 
     def lose(self, exchange: Exchange) -> None:
         """Writes the calls of a request as lost. If it might have created the index, others go on."""
@@ -266,4 +273,4 @@ class ClientSide(ClientConnection):
         if recorded is not None:
             self.proxy.judge.lost(recorded)
         if isinstance(recorded, IndexMakingRequest) and self.proxy.discovery is not None:
-            self.proxy.discovery.has_made(False)
+            self.proxy.discovery.end_making(False)

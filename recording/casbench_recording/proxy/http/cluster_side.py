@@ -46,10 +46,10 @@ class ClusterSide:
         loop, cluster = client.proxy.loop, client.node.cluster
         if cluster.trust is None:
             self.stream = Stream(loop, connection, self)
-            loop.soon(lambda: client.has_cluster(None))
+            loop.soon(lambda: client.cluster_connected(None))
         else:
             self.stream = TlsStream(
-                loop, connection, self, cluster.trust, str(cluster.url.hostname), client.has_cluster
+                loop, connection, self, cluster.trust, str(cluster.url.hostname), client.cluster_connected
             )
 
     def received(self, data: bytes) -> None:
@@ -58,14 +58,14 @@ class ClusterSide:
         client.active_at = client.proxy.loop.now
         self.data = self.data + data if self.data else data
         try:
-            while self.data and self.has_step():
+            while self.data and self.do_step():
                 pass
         except BadMessage as fault:
             self.fail(f"the answer can't be read: {fault}")
         if self.data or client.held or client.exchange is not None and client.exchange.body is not None:
             client.account()
 
-    def has_step(self) -> bool:
+    def do_step(self) -> bool:
         """Does the next step with the data from the cluster; returns whether there may be another one."""
         client = self.client
         exchange = client.exchange
@@ -73,12 +73,12 @@ class ClusterSide:
             self.fail("there was an answer without a request")
             return False
         if exchange.response is None:
-            return self.has_head(exchange)
+            return self.take_head(exchange)
         assert exchange.body is not None
         self.take_piece(exchange, exchange.response, exchange.body)
         return True
 
-    def has_head(self, exchange: Exchange) -> bool:
+    def take_head(self, exchange: Exchange) -> bool:
         """Reads the head of an answer, and all of it if it was received in one piece; returns whether there
         may be another step."""
         data = self.data
@@ -151,10 +151,10 @@ class ClusterSide:
         if isinstance(recorded, IndexMakingRequest):
             self.discover_made_index(exchange, recorded, response, plain)
         elif len(recorded.parts) <= MOST_AT_ONCE:
-            proxy.judge.answers.answered(recorded, response.status, plain, fields.length)
+            proxy.judge.answers.record(recorded, response.status, plain, fields.length)
             (self.deliver if proxy.discovery is None else self.discover_index)(exchange)
         else:
-            self.work(proxy.judge.answers.answering(recorded, response.status, plain), exchange)
+            self.work(proxy.judge.answers.record_in_steps(recorded, response.status, plain), exchange)
 
     def work(self, steps: Iterator[None], exchange: Exchange) -> None:
         """Does work in steps, and then goes on with the answer. Nothing is read from the cluster
@@ -178,7 +178,7 @@ class ClusterSide:
         self.stream.pause_reading()
 
         def go_on() -> None:
-            discovery.has_made(proxy.judge.made(making, response.status, content, response.fields.length))
+            discovery.end_making(proxy.judge.made(making, response.status, content, response.fields.length))
             self.found(exchange)
 
         discovery.answered(exchange, go_on, True)

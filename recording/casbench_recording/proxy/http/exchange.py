@@ -46,7 +46,7 @@ class Exchange:
 
     state = TAKING
     # the received part of a request, if it is received in pieces
-    coming: Optional["Coming"] = None
+    incoming: Optional["IncomingRequest"] = None
     # whether the client was sent 100 Continue
     was_continued = False
     recorded: Optional[RecordedRequest] = None
@@ -83,7 +83,7 @@ class Exchange:
         self.state = ANSWERED if self.state is SENT else ANSWERED_EARLY
 
 
-class Coming:
+class IncomingRequest:
     """The part of a request that was received and not passed on yet: all of it until its body can be read, or
     nothing."""
 
@@ -99,7 +99,7 @@ class Coming:
         return held
 
 
-class Unpacking:
+class Unpacker:
     """Content that is received in pieces and may be compressed."""
 
     def __init__(self, encoding: bytes) -> None:
@@ -134,13 +134,13 @@ class Unpacking:
             yield None
 
 
-class ComingInPieces(Coming):
+class IncomingBulkRequest(IncomingRequest):
     """The part of a bulk request that was received and not passed on yet: a piece is passed on when the calls
     are written of all items that start in it."""
 
     def __init__(self, head: bytes, body: Body, encoding: bytes) -> None:
         super().__init__(head, body, True)
-        self.unpacking = Unpacking(encoding)
+        self.unpacker = Unpacker(encoding)
         # how many bytes of the plain content were received; and the waiting pieces, each with its length and
         # that number at its end
         self.length = 0

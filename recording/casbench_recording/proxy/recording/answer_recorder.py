@@ -58,12 +58,12 @@ class AnswerRecorder:
         # the endings that are collected, or None if each is written at once
         self._endings: Optional[List[Ending]] = None
 
-    def answered(
+    def record(
         self, recorded: RecordedRequest, status: int, content: Optional[bytes], length: Optional[int]
     ) -> None:
         """Records a complete answer. The content is None if it can't be read."""
         if recorded.kind in OF_SEVERAL:
-            for _ in self.answering(recorded, status, content):
+            for _ in self.record_in_steps(recorded, status, content):
                 pass
             return
         try:
@@ -72,17 +72,19 @@ class AnswerRecorder:
             (part,) = recorded.parts
             assert part is not None
             if recorded.is_head:
-                self._answered(
+                self._record_reply(
                     part,
                     status,
                     missing_by_length(self._documents.shape, part.id, length) if status == 404 else {},
                 )
             else:
-                self._answered(part, status, read_reply(part.op, status, content) or object_of(content))
+                self._record_reply(part, status, read_reply(part.op, status, content) or object_of(content))
         except Exception as fault:
             self._writer.end_by(fault)
 
-    def answering(self, recorded: RecordedRequest, status: int, content: Optional[bytes]) -> Iterator[None]:
+    def record_in_steps(
+        self, recorded: RecordedRequest, status: int, content: Optional[bytes]
+    ) -> Iterator[None]:
         """The same for a request on several documents, in steps, between which other events may be
         handled."""
         try:
@@ -91,7 +93,7 @@ class AnswerRecorder:
         except Exception as fault:
             self._writer.end_by(fault)
 
-    def lost(self, recorded: RecordedRequest) -> None:
+    def record_loss(self, recorded: RecordedRequest) -> None:
         """Records that no complete answer came. A write without an id, or a request on unnamed documents,
         stays open for good."""
         if self._writer.has_ended:
@@ -122,20 +124,20 @@ class AnswerRecorder:
                 self._documents.open_sweeps -= 1
         elif recorded.kind is RouteKind.MULTIPLE_GET:
             items = listed(body, "docs", len(recorded.parts)) if status == 200 else iter(())
-            yield from self._answered_items(recorded.parts, items, "docs")
+            yield from self._record_items(recorded.parts, items, "docs")
         else:
             if is_unperformed(status, body, is_handed_on=len(recorded.parts) > 1):
                 for part in filter(None, recorded.parts):
-                    self._answered(part, status, body)
+                    self._record_reply(part, status, body)
                 return
             whole = (
                 items_of_long(content)
                 if is_long and content is not None
                 else listed(body, "items", len(recorded.parts))
             )
-            yield from self._answered_items(recorded.parts, whole if status == 200 else iter(()), "items")
+            yield from self._record_items(recorded.parts, whole if status == 200 else iter(()), "items")
 
-    def _answered_items(
+    def _record_items(
         self, parts: Sequence[Optional[RequestedCall]], items: Iterator[Any], member: str
     ) -> Iterator[None]:
         """Records the items of an answer. If an item isn't at its place, its call is lost."""
@@ -151,11 +153,11 @@ class AnswerRecorder:
                 except (ValueError, RecursionError):
                     items, item = iter(()), None
                 if part is not None:
-                    self._answered_item(part, item, member)
+                    self._record_item(part, item, member)
             self._flush()
             self._documents.rest(some)
 
-    def _answered_item(self, part: RequestedCall, item: Any, member: str) -> None:
+    def _record_item(self, part: RequestedCall, item: Any, member: str) -> None:
         """Records an item of an answer."""
         shown = item
         if member == "items":
@@ -164,15 +166,15 @@ class AnswerRecorder:
             not part.id or "_id" in shown and (shown["_id"] == part.id or part.op != "get")
         )
         status = item_status(member, shown) if is_its else 0
-        self._answered(part, status, shown if status else None)
+        self._record_reply(part, status, shown if status else None)
 
-    def _answered(self, part: RequestedCall, status: int, body: Optional[JsonObject]) -> None:
+    def _record_reply(self, part: RequestedCall, status: int, body: Optional[JsonObject]) -> None:
         """Records the reply to a call."""
         shape = self._documents.shape
         if body is not None and shape is not None and body.get("_index", shape.name) != shape.name:
             body = None
         if not part.id:
-            self._answered_new(part, status, body)
+            self._record_new_document(part, status, body)
         elif part.call is not None and (document := part.document) is not None:
             if body is not None and body.get("_id", part.id) != part.id:
                 self._documents.note_unknown_write(part.id, "an answer had another id")
@@ -250,7 +252,7 @@ class AnswerRecorder:
             self._documents.stop_judging(document.id, "it existed before")
         return False
 
-    def _answered_new(self, part: RequestedCall, status: int, body: Optional[JsonObject]) -> None:
+    def _record_new_document(self, part: RequestedCall, status: int, body: Optional[JsonObject]) -> None:
         """Records the call and the reply of a write whose id comes with the answer, unless there was an
         earlier request for that document.
 
@@ -278,7 +280,7 @@ class AnswerRecorder:
         if documents.sweeps != part.sweeps or documents.open_sweeps:
             documents.stop_judging(id, "it was created while a request changed unnamed documents")
         elif self._asking.write_part(part):
-            self._answered(part, status, body)
+            self._record_reply(part, status, body)
 
     def _end(
         self,

@@ -12,7 +12,7 @@ import threading
 from typing import Dict, List, NamedTuple, Optional, Set, Union
 
 from casbench_recording.cluster import ClusterError
-from casbench_recording.index_inspection import SECONDS, Inspector, Shape
+from casbench_recording.index_inspection import SECONDS, IndexShape, Inspector
 from casbench_recording.proxy.http.loop import Loop
 from casbench_recording.proxy.http.request_queue import GoOn, RequestQueue
 from casbench_recording.proxy.routing.routes import BULK, Route, RouteKind
@@ -93,16 +93,16 @@ class IndexDiscovery:
             return True
         return self._index.encode() in content or b"\\" in content or content.startswith(PACKED)
 
-    def passes(self, exchange: object, passed: Passed) -> None:
+    def note_passed(self, exchange: object, passed: Passed) -> None:
         """Called when a write is passed on."""
         self._open[exchange] = passed
 
-    def makes(self, making: IndexMakingRequest, give_up: GoOn) -> None:
+    def begin_making(self, making: IndexMakingRequest, give_up: GoOn) -> None:
         """Called when a request that may create the index is passed on, in its turn. After the timeout
         `give_up` is called."""
         self._making, self._made_since, self._give_up = making, self._loop.now, give_up
 
-    def has_made(self, is_known: bool) -> None:
+    def end_making(self, is_known: bool) -> None:
         """Called when this request is over; `is_known` if it is known what it wrote."""
         if not is_known and self._making is not None:
             self._unknown += self._making.writes
@@ -135,7 +135,7 @@ class IndexDiscovery:
         ):
             self._names = None
 
-    def _writes_of(self, shape: Shape) -> int:
+    def _writes_of(self, shape: IndexShape) -> int:
         """Returns how many changes others may have made to documents that aren't judged; 0 if there may be
         more, by another name."""
         has_more_names = len(shape.names.all) > 1
@@ -145,7 +145,7 @@ class IndexDiscovery:
             return 0
         return self._unknown + (self._making.writes if self._making is not None else 0)
 
-    def never_answered(self, exchange: object) -> None:
+    def note_never_answered(self, exchange: object) -> None:
         """Called when a write that was passed on will never be answered. It may be performed at any time."""
         passed = self._open.pop(exchange, None)
         if passed is None or self.is_over:
@@ -163,11 +163,11 @@ class IndexDiscovery:
             self._go_on()
         elif is_due:
             self._asked_at = self._loop.now
-            threading.Thread(target=self._ask, daemon=True).start()
+            threading.Thread(target=self._inspect, daemon=True).start()
 
-    def _ask(self) -> None:
+    def _inspect(self) -> None:
         """Inspects the index, on its own thread."""
-        result: Union[Shape, ClusterError, None]
+        result: Union[IndexShape, ClusterError, None]
         try:
             result = self._inspector.inspect(self._index)
         except ClusterError as fault:
@@ -176,7 +176,7 @@ class IndexDiscovery:
             result = ClusterError(f"the index can't be inspected: {fault!r}")
         self._loop.call(lambda: self._take_result(result))
 
-    def _take_result(self, result: Union[Shape, ClusterError, None]) -> None:
+    def _take_result(self, result: Union[IndexShape, ClusterError, None]) -> None:
         """Takes the result, unless it is too late."""
         if self._asked_at is None:
             return

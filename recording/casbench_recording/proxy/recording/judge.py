@@ -9,7 +9,7 @@ So what was recorded stays right.
 from typing import Callable, FrozenSet, Iterable, NamedTuple, Optional
 
 from casbench_recording.history.writing import Histories
-from casbench_recording.index_inspection import Shape
+from casbench_recording.index_inspection import IndexShape
 from casbench_recording.proxy.routing.paths import AS_SENT, Paths, parts_of, path_of
 from casbench_recording.proxy.routing.routes import BULK, PASS, READS, Route, RouteKind, route_of
 from casbench_recording.proxy.state.documents import UNSURE, DocumentState
@@ -50,7 +50,7 @@ class Judge:
 
     def __init__(
         self,
-        shape: Optional[Shape],
+        shape: Optional[IndexShape],
         name: str,
         history: Histories,
         unjudged: UnjudgedList,
@@ -64,13 +64,13 @@ class Judge:
         self.documents = JudgedDocuments(self.writer, shape, name, first, only, most_kept)
         self._is_closed = False
         # called with the description of the index when it is found
-        self.on_shape: Callable[[Shape], object] = lambda shape: None
+        self.on_shape: Callable[[IndexShape], object] = lambda shape: None
         # record calls and replies
         self.requests = RequestRecorder(self.documents)
         self.answers = AnswerRecorder(self.documents, self.requests)
 
     @property
-    def shape(self) -> Optional[Shape]:
+    def shape(self) -> Optional[IndexShape]:
         """The description of the index, or None as long as it doesn't exist."""
         return self.documents.shape
 
@@ -93,7 +93,7 @@ class Judge:
         self.documents.settled()
 
     def found(
-        self, shape: Shape, passed: Iterable[Passed], gone: Iterable[Passed] = (), writes: int = 0
+        self, shape: IndexShape, passed: Iterable[Passed], gone: Iterable[Passed] = (), writes: int = 0
     ) -> None:
         """Takes the description of the index, which didn't exist before. If there were more than `writes`
         changes, only documents that are seen created are judged.
@@ -121,19 +121,21 @@ class Judge:
         """
         if self.shape is None and 400 <= status < 500:
             return True
-        recorded = self.requests.ask(making.route, making.method, making.content, making.requester)
+        recorded = self.requests.record(making.route, making.method, making.content, making.requester)
         if recorded is not None:
-            self.answers.answered(recorded, status, content, length)
+            self.answers.record(recorded, status, content, length)
         return self.shape is not None
 
     def lost(self, recorded: RecordedRequest) -> None:
         """Records that no complete answer came."""
         if isinstance(recorded, IndexMakingRequest):
-            asked = self.requests.ask(recorded.route, recorded.method, recorded.content, recorded.requester)
+            asked = self.requests.record(
+                recorded.route, recorded.method, recorded.content, recorded.requester
+            )
         else:
             asked = recorded
         if asked is not None:
-            self.answers.lost(asked)
+            self.answers.record_loss(asked)
 
     def note(self, text: str) -> None:
         """Puts a note on the next line of each history."""
@@ -154,7 +156,7 @@ class Judge:
         self.unjudged.close(self.documents.left_out)
 
 
-def may_have_written(passed: Passed, shape: Shape) -> bool:
+def may_have_written(passed: Passed, shape: IndexShape) -> bool:
     """Returns whether a request that was passed on may have written to the index by a name that wasn't
     known."""
     if len(shape.names.all) == 1:

@@ -12,7 +12,7 @@ from casbench_recording.history.format import (
     text_of,
     text_of_missing,
 )
-from casbench_recording.index_inspection import Shape
+from casbench_recording.index_inspection import IndexShape
 
 MOST_REMEMBERED = 4096
 """How many texts of replies are cached."""
@@ -63,7 +63,7 @@ def item_status(member: str, item: JsonObject) -> int:
     return 200 if item["found"] else 404
 
 
-def missing_by_length(shape: Optional[Shape], id: str, length: Optional[int]) -> JsonObject:
+def missing_by_length(shape: Optional[IndexShape], id: str, length: Optional[int]) -> JsonObject:
     """Returns what a 404 to a HEAD says: that the document is missing, if the Content-Length is that of such
     a body."""
     body: JsonObject = {"_index": shape.name if shape else "", "_id": id, "found": False}

@@ -4,7 +4,7 @@ import re
 from typing import Any, Iterator, List, Mapping, Optional, Sequence
 
 from casbench_recording.history.format import WRITES_A_VALUE, JsonObject, Operation, Pair, length_of
-from casbench_recording.index_inspection import Shape
+from casbench_recording.index_inspection import IndexShape
 from casbench_recording.proxy.json_bodies import MOST_READ
 from casbench_recording.proxy.routing.body_checks import may_write
 from casbench_recording.proxy.routing.routes import (
@@ -52,7 +52,7 @@ class RequestRecorder:
         self._documents = documents
         self._writer = documents.writer
 
-    def ask(
+    def record(
         self, route: Route, method: str, content: Optional[bytes], requester: Requester = UNKNOWN_REQUESTER
     ) -> Optional[RecordedRequest]:
         """Records the calls of a request. The content is None if it can't be read."""
@@ -62,17 +62,17 @@ class RequestRecorder:
             if route.kind is CALL:
                 digest = digest_of_text(content) if route.op in WRITES_A_VALUE else None
                 part = RequestedCall(route.id, route.op, route.parameters, digest)
-                return self._made_one(CALL, part, requester, method == "HEAD")
-            return self._ask(route, content, requester)
+                return self._record_one(CALL, part, requester, method == "HEAD")
+            return self._record_other(route, content, requester)
         except Exception as fault:
             self._writer.end_by(fault)
         return None
 
-    def ask_in_pieces(self, route: Route, requester: Requester = UNKNOWN_REQUESTER) -> RecordedBulkRequest:
+    def begin_bulk(self, route: Route, requester: Requester = UNKNOWN_REQUESTER) -> RecordedBulkRequest:
         """Begins a bulk request whose content is received in pieces."""
         return RecordedBulkRequest(route.parameters, route.index_name, requester, MOST_READ)
 
-    def take_items(
+    def record_items(
         self, recorded: RecordedBulkRequest, content: Optional[bytes], is_last: bool, has_room: bool = True
     ) -> None:
         """Records the calls of the items that are complete. The content is None if it can't be read.
@@ -105,23 +105,25 @@ class RequestRecorder:
         except Exception as fault:
             self._writer.end_by(fault)
 
-    def _ask(self, route: Route, content: Optional[bytes], requester: Requester) -> Optional[RecordedRequest]:
+    def _record_other(
+        self, route: Route, content: Optional[bytes], requester: Requester
+    ) -> Optional[RecordedRequest]:
         """Records the calls of a request of a less frequent kind."""
         kind = route.kind
         if kind is RouteKind.NEW:
-            return self._made_one(
+            return self._record_one(
                 kind, RequestedCall("", route.op, route.parameters, digest_of_text(content)), requester
             )
         if kind is RouteKind.UPDATE:
-            return self._made(
+            return self._record_all(
                 kind, [self._update(route.id, route.parameters, object_of(content), True)], requester
             )
         if kind is BULK:
-            bulk = self.ask_in_pieces(route, requester)
-            self.take_items(bulk, content, True)
+            bulk = self.begin_bulk(route, requester)
+            self.record_items(bulk, content, True)
             return bulk if bulk.has_calls else None
         if kind is RouteKind.MULTIPLE_GET:
-            return self._made(kind, list(self._places(route, object_of(content))), requester)
+            return self._record_all(kind, list(self._places(route, object_of(content))), requester)
         if kind is SWEEP:
             recorded = self.begin_sweep(route)
             for _ in self.sweeping(route):
@@ -141,7 +143,7 @@ class RequestRecorder:
 
     # Calls and their lines
 
-    def _made_one(
+    def _record_one(
         self, kind: RouteKind, part: RequestedCall, requester: Requester, is_head: bool = False
     ) -> RecordedRequest:
         """Records the call of a request with a single one."""
@@ -152,7 +154,7 @@ class RequestRecorder:
             writer.write_call(writer.history.of_shard(document.shard), part)
         return RecordedRequest(kind, (part,), is_head)
 
-    def _made(
+    def _record_all(
         self, kind: RouteKind, parts: List[Optional[RequestedCall]], requester: Requester
     ) -> Optional[RecordedRequest]:
         """Records the calls of all parts of a request."""
@@ -198,7 +200,7 @@ class RequestRecorder:
         documents.left_out += 1
         return None
 
-    def _is_known(self, part: RequestedCall, shape: Optional[Shape]) -> bool:
+    def _is_known(self, part: RequestedCall, shape: Optional[IndexShape]) -> bool:
         """Returns whether the shard of a part is known, if the index doesn't exist yet or has several. If it
         isn't known for a write, its document isn't judged any more."""
         if shape is not None and not {"routing", "parent"} & set(part.parameters):

@@ -5,7 +5,7 @@ from typing import FrozenSet, Iterable, Iterator, List, Optional, Sequence, Tupl
 
 from casbench_recording.history.continuing import Continuing
 from casbench_recording.history.writing import Call
-from casbench_recording.index_inspection import Shape
+from casbench_recording.index_inspection import IndexShape
 from casbench_recording.index_names import Names
 from casbench_recording.proxy.recording.history_writer import HistoryWriter
 from casbench_recording.proxy.recording.recorded_requests import RequestedCall
@@ -30,7 +30,7 @@ class JudgedDocuments:
     def __init__(
         self,
         writer: HistoryWriter,
-        shape: Optional[Shape],
+        shape: Optional[IndexShape],
         name: str,
         first: DocumentState,
         only: Optional[FrozenSet[str]],
