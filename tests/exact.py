@@ -74,8 +74,8 @@ class Search:
     shard stand one after the other, and those of the next shard behind them; of a document they are counted from its
     shard's first."""
 
-    def __init__(self, calls, reading, shard_of):
-        shown = [it.op.condition for it in calls] + [it.reply.pair for it in calls if it.reply]
+    def __init__(self, calls, reading, shard_of, elsewhere):
+        shown = [it.op.condition for it in calls] + [it.reply.pair for it in calls if it.reply] + list(elsewhere)
         pairs = sorted(set(filter(None, shown)))
         self.ranks = {None: None, **{pair: 2 * at + 1 for at, pair in enumerate(pairs)}}
         self.count = 2 * len(pairs) + 1
@@ -86,6 +86,8 @@ class Search:
         self.calls = [self.ranked(it, reading, shards.index(shard_of(it.doc))) for it in kept]
         self.shown = [self.at(it, pair_taken(it.reply)) for it in self.calls if pair_taken(it.reply)]
         self.room = self.rooms(pairs, len(shards))
+        for pair in elsewhere:
+            self.room[self.ranks[pair] :: self.count] = [0] * len(shards)
         self.failed = set()
 
     def ranked(self, call, reading, shard):
@@ -156,6 +158,7 @@ class Search:
         return After(after.left - {number}, states, last, after.given)
 
 
-def has_order(calls, reading, shard_of=one_shard):
-    """Whether an order of all calls explains the history."""
-    return Search(calls, reading, shard_of).has_order()
+def has_order(calls, reading, shard_of=one_shard, elsewhere=()):
+    """Whether an order of all calls explains the history, in which no write whose reply doesn't show a pair takes one of
+    these pairs."""
+    return Search(calls, reading, shard_of, elsewhere).has_order()

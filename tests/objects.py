@@ -20,6 +20,7 @@ import time
 
 from case_files import FILES, all_cases, case_text
 from program_test import ProgramTest, run_tests
+from readings import PROFILES, STRICT, Reading
 from running import SECONDS, run
 from texts import OFFENCE, conflict, created, get, index, lost, missing, no_calls, status_of, too_few
 
@@ -29,6 +30,9 @@ ANSWERS = re.compile(r"(?:yes|no|refuted|refused|verified|broken) [^\n]*\n")
 
 # Replies to a write that say whether it was performed, by their results or statuses.
 RESULTS = {"created", "updated", "deleted", "not_found"}
+
+# The other reading that leaves each event as it is.
+MAYBE = STRICT._replace(conflicts="maybe")
 
 # An id that is escaped in JSON, and a history of it for which no order is found, with a blank line and times.
 ODD = '\\"\\u00e9\\u0001'
@@ -68,12 +72,14 @@ def events_of(history):
 
 
 def is_settled(events, reading):
-    """Whether each write has a reply that says whether it was performed."""
+    """Whether each write that is judged has a reply that says whether it was performed. A second attempt has none."""
     replies = {event["n"]: event for _, event in events if event["e"] == "reply"}
     for _, event in events:
         if event["e"] == "call" and event["op"] != "get":
             reply = replies.get(event["n"], {"status": 0})
-            if reply["status"] == 409 and reading == "plain":
+            if reading.writes == "repeated":
+                return False
+            if reply["status"] == 409 and reading.conflicts == "plain":
                 continue
             body = reply.get("body")
             if not (isinstance(body, dict) and body.get("result") in RESULTS and "_seq_no" in body):
@@ -98,6 +104,9 @@ def facts_of(line, history, reading):
         "shard": call.get("shard", 0),
         "lines": {"call": called, "reply": replied},
     }
+    # A reading that leaves each event as it is isn't named.
+    if reading not in (STRICT, MAYBE):
+        facts["reading"] = reading._asdict()
     if "t" in reply:
         time = datetime.datetime.fromtimestamp(reply["t"] / 1000, datetime.timezone.utc)
         facts["time"] = time.isoformat(timespec="milliseconds").replace("+00:00", "Z")
@@ -110,14 +119,17 @@ def compact(members):
 
 
 def reading_of(arguments):
-    """How conflicts are read by these arguments."""
-    return "maybe" if "maybe" in arguments or "--conflicts=maybe" in arguments else "plain"
+    """The reading that these arguments choose."""
+    words = [part for argument in arguments for part in argument.split("=", 1)]
+    options = {one[2:]: two for one, two in zip(words, words[1:]) if one.startswith("--")}
+    chosen = {name: options[name] for name in Reading._fields if name in options}
+    return PROFILES[options.get("profile", "strict")]._replace(**chosen)
 
 
 class Objects(ProgramTest):
     """Each object, and what it has beside the members of its line."""
 
-    def check_object(self, out, line, history, files, reading="plain"):
+    def check_object(self, out, line, history, files, reading=STRICT):
         """Compares an object with the line, and with what else is known of the files; of `explain` it has the explanation."""
         said = json.loads(out)
         milliseconds = said.pop("milliseconds")

@@ -8,11 +8,13 @@ those that a cluster makes; small histories have one or more, and at most nine c
 whether they have an order. If it finds one the program must not refute, and if it finds none the program must not
 answer yes, and only seldom no.
 
-The answer has to have the evidence of the four older kinds if a naive body finds it, and else the least call at which a
-naive body of the walk rules a document out, if it does. A witness and a story begin with the same line, and without the
-option the line is the same, but `no` for a document that is ruled out.
+The answer has to have the evidence of the four older kinds if a naive body finds it. Of a document that is ruled out the
+exact search finds no order of its calls alone, and the call that is named isn't later than the first one up to whose
+reply there is none. A witness and a story begin with the same line, and without the option the line is the same, but
+`no` for a document that is ruled out.
 """
 
+import copy
 import json
 import sys
 from collections import Counter
@@ -25,7 +27,6 @@ from drawing import CONFLICT, MISSING, Call, Ending, Op, Reply, pair_taken, perf
 from evidence import first_evidence, holds, known_calls
 from exact import has_order
 from orders import text_of
-from placings import least_ruled_out
 from program_test import ProgramTest, run_tests
 from running import run, said
 from texts import OFFENCE, READINGS, status_of
@@ -197,11 +198,46 @@ def evidence_of(line):
     return (offence["kind"], tuple(map(int, offence["calls"].split(",")))) if offence and offence["kind"] else None
 
 
-def naive_evidence(calls, reading):
-    """The evidence that the naive bodies find: that of the four older kinds, else the least call at which a document is
-    ruled out."""
-    number = least_ruled_out(calls.values(), reading)
-    return first_evidence(calls, reading) or (None if number is None else ("ruled-out", (number,)))
+def up_to(calls, replied):
+    """What was known of the calls at a reply: those that were made before it, and the replies up to it."""
+    for call in calls:
+        if call.called < replied:
+            known = copy.copy(call)
+            if call.replied is not None and call.replied > replied:
+                known.replied = known.reply = None
+            yield known
+
+
+def known_pairs(calls):
+    """The pairs that replies show to be pairs of changes: those that were taken or found, and conditions that were met."""
+    for call in calls:
+        if call.reply and call.reply.pair:
+            yield call.reply.pair
+            if pair_taken(call.reply) and call.op.condition:
+                yield call.op.condition
+
+
+def check_ruled_out(calls, number, reading):
+    """No order explains the document of the call that is named, in which no write takes a pair that another document is
+    known to have. Returns whether the call is later than the first one up to whose reply none does."""
+    named = calls[number]
+    own = [it for it in calls.values() if it.doc == named.doc]
+    elsewhere = set(known_pairs(it for it in calls.values() if it.doc != named.doc))
+    if named.reply is None or has_order(own, reading, elsewhere=elsewhere):
+        raise AssertionError(f"ruled out at call {number}, and the exact search finds an order of its document")
+    earlier = (it.replied for it in own if it.reply and it.replied < named.replied)
+    return any(not has_order(list(up_to(own, it)), reading, elsewhere=elsewhere) for it in earlier)
+
+
+def check_evidence(calls, line, reading):
+    """The evidence is that of the four older kinds which a naive body finds, or else a document that is ruled out or
+    none. Returns whether a document was ruled out later than it could have been."""
+    found, evidence = first_evidence(calls, reading), evidence_of(line)
+    if evidence and evidence[0] == "ruled-out" and not found:
+        return check_ruled_out(calls, evidence[1][0], reading)
+    if evidence != found:
+        raise AssertionError(f"{line}, and a naive body finds {found}")
+    return False
 
 
 def without_option(line):
@@ -223,28 +259,29 @@ def judged(program, seed, reading):
     line, calls = line_of(program, text_of(events), reading), known_calls(events)
     kind, evidence = kind_of(line), evidence_of(line)
     # (the naive bodies take long if there are many calls; tests/evidence.py has them find the older kinds)
-    if kind in ("no", "ruled-out") and evidence != naive_evidence(calls, reading):
-        raise AssertionError(f"{line}, and the naive bodies find {naive_evidence(calls, reading)}")
+    if kind in ("no", "ruled-out") and first_evidence(calls, reading):
+        raise AssertionError(f"{line}, and a naive body finds {first_evidence(calls, reading)}")
     if kind in OLDER and not holds(kind, calls, evidence[1], reading):
         raise AssertionError(f"{line}, which doesn't hold")
     return kind
 
 
 def judged_exactly(program, seed, reading):
-    """Judges a small history; returns the kind of its answer, and whether it has an order."""
+    """Judges a small history; returns the kind of its answer, whether it has an order, and whether a document was ruled
+    out late."""
     events = small_history(seed)
     text, calls = text_of(events), known_calls(events)
     line, is_explained = line_of(program, text, reading), has_order(list(calls.values()), reading)
     kind = kind_of(line)
     if kind != "no" and (kind == "yes") != is_explained:
         raise AssertionError(f"{line}, and the exact search finds {'an' if is_explained else 'no'} order")
+    is_late = False
     if kind != "yes":
-        if evidence_of(line) != naive_evidence(calls, reading):
-            raise AssertionError(f"{line}, and the naive bodies find {naive_evidence(calls, reading)}")
+        is_late = check_evidence(calls, line, reading)
         others = [answer(program, command, text, reading, "--rule-out") for command in ("witness", "explain")]
         if others != [line, line]:
             raise AssertionError(f"{line}, and a witness and a story begin with {others}")
-    return kind, is_explained
+    return kind, is_explained, is_late
 
 
 # The cases.
@@ -285,9 +322,9 @@ def events_of(text):
 def check_case(history, reading, line):
     """The exact search and the naive bodies agree with the answer to a case."""
     calls = known_calls(list(events_of(history)))
-    found = has_order(list(calls.values()), reading), naive_evidence(calls, reading)
-    if found != (kind_of(line) == "yes", evidence_of(line)):
-        raise AssertionError(f"{line}, and whether there is an order, and the evidence that is found: {found}")
+    if has_order(list(calls.values()), reading) != (kind_of(line) == "yes"):
+        raise AssertionError(f"{line}, and the exact search says otherwise")
+    check_evidence(calls, line, reading)
 
 
 def case_rows():
@@ -342,11 +379,13 @@ class RuledOut(ProgramTest):
         no."""
         for reading in READINGS:
             returned = [it for _, it in self.judge_seeds("small history", judged_exactly, SMALL, reading)]
-            kinds = [kind for kind, is_explained in returned if not is_explained]
+            kinds = [kind for kind, is_explained, _ in returned if not is_explained]
             counts = ", ".join(f"{kinds.count(kind)} {kind}" for kind in KINDS[1:])
             most = f"which may be {MOST_NO[reading]} in a hundred"
             print(f"{reading}: {len(kinds)} of {SMALL} small histories have no order: {counts}, {most}")
-            missed = sum(kind == "no" and is_explained for kind, is_explained in returned)
+            missed = sum(kind == "no" and is_explained for kind, is_explained, _ in returned)
+            late = sum(is_late for _, _, is_late in returned)
+            print(f"{reading}: {late} documents are ruled out later than they could be")
             print(f"{reading}: {SMALL - len(kinds)} have an order, of which {missed} get no")
             with self.subTest(f"how many have no order, {reading}"):
                 self.assertGreaterEqual(len(kinds), UNORDERED)

@@ -11,9 +11,10 @@ tests/small_drawing.py, each in both readings of a conflict. What has to hold of
 - With --rule-out the line is the same, or it is `refuted kind=ruled-out` in the place of `no`.
 - What README says in SENTENCES.
 - `explain` begins with the line of `check`; it says that this is proved, or that there is no order, only if there is
-  none; and its headline names an anomaly exactly if there is evidence or a document is ruled out. Both are those of the
-  line, by the table of docs/FORMATS.md, unless a call of the evidence is answered after the broken reply. No reason
-  cites a line after that reply, unless the text up to it isn't refuted by itself.
+  none; and its headline names an anomaly if there is evidence. If a document is ruled out it may name one, or say that
+  the replies contradict one another, and else it names none. Both are those of the line, by the table of
+  docs/FORMATS.md, unless a call of the evidence is answered after the broken reply. No reason cites a line after that
+  reply, unless the text up to it isn't refuted by itself.
 
 Some fixed histories show what is not promised: that a `no` is proved if a write may have been performed that no reply
 shows, and that every history without an order is refuted.
@@ -44,10 +45,12 @@ LEAST = {
     "settled, no order, refuted": 500,
     "unsettled, an order, yes": 5_000,
     "unsettled, an order, no": 10,
-    "unsettled, no order, no": 20,
     "unsettled, no order, no, then refuted": 300,
     "unsettled, no order, refuted": 500,
 }
+
+# Of a thousand histories without an order, how many may keep a `no` that is undecided, in each reading.
+MOST_UNDECIDED = {"plain": 2, "maybe": 10}
 
 # What README says, word for word. The first one is checked in each settled history that gets `no`; of the second one
 # the first half in each that has an order, and the second half by the fixed histories.
@@ -82,6 +85,9 @@ ANOMALIES = {
     "Version that nobody wrote",
     "Conflict without a cause",
 }
+
+# The headline if no anomaly is found.
+CONTRADICTION = "The replies contradict one another"
 
 # What a story says only if there is no order.
 PROVED = ("This is proved", "no order of the calls explains", "No order of the calls explains")
@@ -169,13 +175,14 @@ def check_story(history, line, ruled_out, story):
 
 
 def check_headline(history, line, story):
-    """The headline of a story names an anomaly exactly if the story proves it by calls: that of the evidence, if the
-    line has some and no call of it is answered after the broken reply."""
+    """The headline of a story names an anomaly if the line has evidence: that of the evidence, if no call of it is answered
+    after the broken reply. Otherwise it names one only if a document is ruled out, or says that replies contradict."""
     _, _, title, *_ = story.split("\n")
-    anomaly = title.partition(":")[0]
-    is_shown = weight_of(story) in (EVIDENT, LINE_RULED_OUT, RULED_OUT)
-    fitting = ANOMALY_OF.get(kind_of(line), anomaly)
-    if (anomaly in ANOMALIES) != is_shown or anomaly != fitting and not is_late(history, line):
+    anomaly, weight = title.partition(":")[0], weight_of(story)
+    fits = anomaly in ANOMALIES if weight == EVIDENT else anomaly not in ANOMALIES
+    if weight in (LINE_RULED_OUT, RULED_OUT):
+        fits = anomaly in ANOMALIES or anomaly == CONTRADICTION
+    if not fits or anomaly != ANOMALY_OF.get(kind_of(line), anomaly) and not is_late(history, line):
         raise AssertionError(f"{line}, and the headline is {title}")
 
 
@@ -242,14 +249,20 @@ NEEDED_TWICE += index(2, k=2) + created(2, 1, 5) + index(3, k=3) + created(3, 1,
 # A write without a reply, whose number a get found at the version of another write.
 OTHER_NUMBER = index(0) + created(0, 1, 0) + index(1, k=7) + lost(1) + get(2) + found(2, 1, 0, k=7)
 
+# Two documents of a shard that need one number, each for a delete without a reply.
+ONE_NUMBER = index(0, doc="a") + created(0, 1, 0) + index(1, doc="b", k=2) + created(1, 1, 1)
+ONE_NUMBER += delete(2, doc="a") + lost(2) + delete(3, doc="b") + lost(3)
+ONE_NUMBER += index(4, doc="a", k=3) + created(4, 1, 3) + index(5, doc="b", k=4) + created(5, 1, 4)
+
 # Name, text, reading, the lines of `check` and of `check --rule-out`, whether each write is settled, and whether there
 # is an order.
 FIXED = [
     ("a hidden write", HIDDEN, "maybe", no(3, 1), no(3, 1), False, True),
     ("the same if nothing is hidden", HIDDEN, "plain", no(3, 1), refuted("ruled-out", 1, 3, 1), True, False),
 ]
-FIXED += [("a delete that is needed twice", NEEDED_TWICE, it, no(7, 3), no(7, 3), False, False) for it in READINGS]
-FIXED += [("a number of another version", OTHER_NUMBER, it, no(5, 2), no(5, 2), False, False) for it in READINGS]
+FIXED += [("a delete that is needed twice", NEEDED_TWICE, it, no(7, 3), refuted("ruled-out", 3, 7, 3), False, False) for it in READINGS]
+FIXED += [("a number of another version", OTHER_NUMBER, it, no(5, 2), refuted("ruled-out", 0, 5, 2), False, False) for it in READINGS]
+FIXED += [("two deletes that need one number", ONE_NUMBER, it, no(11, 5), no(11, 5), False, False) for it in READINGS]
 
 # An order of the first one.
 HIDDEN_ORDER = witness_of("d", places_of(f"0 1={MOST_OF_PAIR}/1 2"))
@@ -287,6 +300,9 @@ class SmallHistories(ProgramTest):
             for kind, least in LEAST.items():
                 with self.subTest(f"how many are {kind}, {reading}"):
                     self.assertGreaterEqual(counts[kind], least)
+            with self.subTest(f"how many are undecided, {reading}"):
+                unordered = sum(count for kind, count in counts.items() if ", no order, " in kind)
+                self.assertLessEqual(counts["unsettled, no order, no"] * 1000, MOST_UNDECIDED[reading] * unordered)
 
 
 if __name__ == "__main__":

@@ -147,14 +147,14 @@ TEXTS = [
 # and for a conflict.
 NEEDED_TWICE = (
     index(0) + created(0, 1, 0) + index(1, k=9) + lost(1) + get(2) + found(2, 1, 1, k=9)
-    + index(3, condition(1, 1), k=2) + updated(3, 1, 2) + index(4, condition(1, 2), k=4) + conflict(4)
+    + index(3, condition(1, 1), k=2) + updated(3, 1, 2) + create(5, k=5) + lost(5) + index(4, condition(1, 2), k=4) + conflict(4)
 )
 
 # The search fails at a document of shard 0, and the evidence is a stale get of another one of shard 1.
 OTHER = ',"shard":1'
 TWO_DOCUMENTS = (
-    index(0, doc="a") + created(0, 1, 0) + delete(1, doc="a") + lost(1) + index(2, doc="a", k=2) + created(2, 1, 5)
-    + index(3, doc="a", k=3) + created(3, 1, 9)
+    index(0, doc="a") + lost(0) + create(1, doc="a", k=2) + lost(1) + get(2, doc="a") + found(2, 1, 0, k=1)
+    + get(3, doc="a") + found(3, 1, 1, k=1)
     + index(4, OTHER, "b", k=3) + created(4, 1, 0) + index(5, OTHER, "b", k=4) + updated(5, 1, 1) + get(6, OTHER, "b") + found(6, 1, 0, k=3)
 )
 
@@ -171,7 +171,7 @@ TEXTS += [
     (
         "a write that is needed twice",
         NEEDED_TWICE,
-        no(9, 4),
+        no(11, 4),
         [
             "\nNo order of the calls was found that explains the reply to call 4.\nThis `no` is undecided, so it accuses nobody",
             "\nWhat would decide it: ",
@@ -482,7 +482,7 @@ RULED_OUT = [
     (
         "a delete that came after the version which it would have to precede",
         index(0) + created(0, 1, 0) + index(2, k=3) + index(1, k=2) + updated(1, 1, 5) + delete(3) + lost(3) + created(2, 1, 3),
-        (7, 2, 2),
+        (7, 2, 2, 1),
         ["\n  line 6, call 3: delete -> no reply: it was called only after the document had passed that version\n"],
         {},
     ),
@@ -522,7 +522,7 @@ RULED_OUT = [
     (
         "a conflict before what came later",
         index(0) + created(0, 1, 0) + index(1, condition(1, 0), k=2) + conflict(1) + index(2, condition(1, 0), k=3) + updated(2, 1, 1),
-        (3, 1, 1, 2),
+        (3, 1, 1),
         [
             "\nCall 0 (index k=1) was answered with the version 1/0 (line 2), so the document had reached it by then. "
             "Call 1 (index k=2 if at 1/0) was made after that (line 3), so it comes after it. "
@@ -642,7 +642,7 @@ RULED_OUT = [
     (
         "a write below a version that was found",
         index(0) + created(0, 1, 0) + index(1, k=9) + lost(1) + get(2) + found(2, 1, 5, k=9) + index(3, k=3) + updated(3, 1, 3),
-        (7, 3, 3),
+        (7, 3, 3, 2),
         [
             "\nCall 2, a get, was answered with k=9 at the version 1/5 (line 6), so the document had reached it by then. ",
             "But the document had reached 1/5 before the call was made, and each write of a document gets a version newer than those before.",
@@ -885,7 +885,8 @@ class Stories(ProgramTest):
         self.assertEqual(places, sorted(places))
 
     def check_reason(self, headline, text, place, parts, counts):
-        # the line names the call that the whole history has no place for, an explanation the first one
+        # the line names the call that the whole history has no place for, or one before it by what is known by then, and
+        # an explanation the first one that has no place by itself
         event, number, stop, *named = place
         first = "The replies contradict one another: no order of the calls explains them.\nThis is proved, "
         plain, page = self.story_of(text)
@@ -899,11 +900,14 @@ class Stories(ProgramTest):
         for part in [*parts, f"\nSo no order has a place for call {stop} and its reply. This is proved", "\nThe calls that matter, "]:
             self.assertIn(part, plain)
         reasons = [it[it.index("\nWhy no order can have these replies:\n") :] for it in (plain, ruled_out)]
-        if named:
+        if named and named[0] > stop:
             # both say that no later line is needed: beside the call that the first line names, or by itself
             for place, begin in enumerate(("The reasons above need no line after ", "The first line names ")):
                 reasons[place], count = re.subn(rf"\n{begin}[^\n]*", "", reasons[place])
                 self.assertEqual(count, 1)
+        if named and named[0] < stop:
+            # with the option that call is marked too, since it is evidence
+            reasons = [re.sub(r"\n\* ", "\n  ", it) for it in reasons]
         self.assertEqual(*reasons)
         self.check_counts(page, counts)
 

@@ -124,24 +124,10 @@ SECTIONS = (
     ),
     (
         "Documents that are ruled out",
-        "Suppose that each call without a reply may take effect anywhere after it was made, as often as needed, "
-        "with any pair that is free there. If even then some answered call of a document has no position, no "
-        "order explains the document, and none the history. That is a law (`RuledOutHaveNoOrder`): if you trust "
-        "it, you need none of these definitions, which only say when it applies.",
-        (
-            "ruled_out/specs/Reported.antt",
-            "ruled_out/specs/Positions.antt",
-            "ruled_out/specs/Placings.antt",
-            "ruled_out/specs/Laws.antt",
-            "ruled_out/specs/Worked.antt",
-        ),
-    ),
-    (
-        "Documents that are ruled out by tables",
-        "The same question, asked of all that a document may be between two events. A document is ruled out if there are "
-        "tables along its events, each of which covers what may follow from the one before it, and the one behind some "
-        "reply is empty. Then no order explains the document, and none the history. That is a law "
-        "(`RuledOutHaveNoOrder`). The program doesn't use these definitions yet.",
+        "A document is ruled out if there are tables of what it may be between its events, each of which covers what may "
+        "follow from the one before it, and the one behind some reply is empty. Then no order explains the document, and "
+        "none the history, whatever became of the calls without a reply. That is a law (`RuledOutHaveNoOrder`): if you "
+        "trust it, you need none of these definitions, which only say when it applies.",
         (
             "deciding/specs/Reported.antt",
             "deciding/specs/Positions.antt",

@@ -176,8 +176,8 @@ said_is_proved conflicts events None n certainty.Evident history none refutes co
 said_is_proved conflicts events None n certainty.ReportedRuledOut history none refutes complete_have_none holds says decided = absurd says
 said_is_proved conflicts events None n certainty.RuledOut history none refutes complete_have_none holds says decided =
     refutes conflicts events (RuledOut says.2.0) history says.2.1
-said_is_proved conflicts events None n certainty.Answered history none refutes complete_have_none holds says decided = none.complete says.1
+said_is_proved conflicts events None n certainty.Answered history none refutes complete_have_none holds says decided = none.complete says
 said_is_proved conflicts events None n certainty.DocumentAnswered history none refutes complete_have_none holds says decided =
-    let without = says.2.2 in
-    document_has_none conflicts events says.2.0 (records_of events without.0.0) history (ap (option_map (λ (d : List ℕ × ℕ). records_of events d.0)) without.1) complete_have_none without.2 without.3
+    let without = says.1.2 in
+    document_has_none conflicts events says.1.0 (records_of events without.0.0) history (ap (option_map (λ (d : List ℕ × ℕ). records_of events d.0)) without.1) complete_have_none without.2 without.3
 said_is_proved conflicts events None n certainty.Undecided history none refutes complete_have_none holds says decided = absurd (decided refl)

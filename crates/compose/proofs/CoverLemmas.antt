@@ -21,7 +21,7 @@ use Rattle.places.proofs.DocumentLaws.{places_are_orders, reports_of}
 use Rattle.covers.specs.Covers.{AreCover, ArePairsDistinct, IsEntered, IsTakenAt}
 use Rattle.events.specs.Heard.{taken_by}
 use Rattle.compose.specs.Laws.{restricted}
-use Rattle.ruled_out.proofs.OrderedSteps.{mapped_at}
+use Rattle.deciding.proofs.OrderedSteps.{mapped_at}
 use Rattle.compose.proofs.CalledDocuments.{shard_of_call}
 use Rattle.covers.proofs.ListedDocuments.{documents_apart}
 use Rattle.compose.proofs.RestrictedOrders.{restricted_change, restricted_explains, restricted_from, restricted_once}

@@ -37,19 +37,17 @@ IsCallRuledOut conflicts events n = (doc : ℕ) × IsDocumentOf events n doc × 
 abbrev pub IsCallWithoutOrder : Conflicts → List Event → ℕ → Type 0
 IsCallWithoutOrder conflicts events n = (doc : ℕ) × IsDocumentOf events n doc × IsWithoutOrder conflicts events doc
 
--- What is said without evidence, if n is the number of the call at which the search first fails, the first of
--- these that holds: RuledOut if the call's document is ruled out; Answered if the history is complete;
--- DocumentAnswered if the document's records are, and it has no order; otherwise Undecided.
+-- What is said without evidence, if n is the number of the call at which the search first fails. RuledOut: the
+-- call's document is ruled out. Answered: the history is complete. DocumentAnswered: it isn't, but the document's
+-- records are, and it has no order. Undecided: neither holds.
 -- Source: profile.
 abbrev pub SaysOfCall : Conflicts → List Event → ℕ → Certainty → Type 0
 SaysOfCall conflicts events n certainty.Evident = ⊥
 SaysOfCall conflicts events n certainty.ReportedRuledOut = ⊥
 SaysOfCall conflicts events n certainty.RuledOut = IsCallRuledOut conflicts events n
-SaysOfCall conflicts events n certainty.Answered = (¬ IsCallRuledOut conflicts events n) × IsComplete conflicts events
-SaysOfCall conflicts events n certainty.DocumentAnswered =
-    (¬ IsCallRuledOut conflicts events n) × (¬ IsComplete conflicts events) × IsCallWithoutOrder conflicts events n
-SaysOfCall conflicts events n certainty.Undecided =
-    (¬ IsCallRuledOut conflicts events n) × (¬ IsComplete conflicts events) × (¬ IsCallWithoutOrder conflicts events n)
+SaysOfCall conflicts events n certainty.Answered = IsComplete conflicts events
+SaysOfCall conflicts events n certainty.DocumentAnswered = (¬ IsComplete conflicts events) × IsCallWithoutOrder conflicts events n
+SaysOfCall conflicts events n certainty.Undecided = (¬ IsComplete conflicts events) × (¬ IsCallWithoutOrder conflicts events n)
 
 -- what is said: ReportedRuledOut with the evidence that a document is ruled out, Evident with any other, and
 -- without evidence `SaysOfCall`

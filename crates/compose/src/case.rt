@@ -2,7 +2,7 @@ ghost use Rattle.std.specs.Prelude.{◌≡◌};
 ghost use Rattle.events.specs.Events.{IsHistory};
 ghost use Rattle.covers.specs.Covers.{HasNoUnpairedCover};
 ghost use Rattle.compose.specs.Verdicts.{HasNoOrderFound};
-ghost use Rattle.evidence.specs.Evidence.{AreDocuments, ListsRuledOut};
+ghost use Rattle.evidence.specs.Evidence.{AreDocuments};
 
 use doc_register::Conflicts;
 use events::History;
@@ -18,7 +18,7 @@ use std::marker::Model;
 pub struct Case {
     history: History,
     conflicts: Conflicts,
-    // The documents for which no order was found at first: no other may be ruled out.
+    // The documents for which no order was found at first.
     unordered: Vec<usize>,
     // The position of the reply with which the numbers seem to become too few, if that is why.
     short_at: Option<usize>,
@@ -28,19 +28,19 @@ impl Model for Case {
     ghost use Rattle.events.specs.Events.{IsHistory};
     ghost use Rattle.covers.specs.Covers.{HasNoUnpairedCover};
     ghost use Rattle.compose.specs.Verdicts.{Unproven};
-    ghost use Rattle.evidence.specs.Evidence.{AreDocuments, ListsRuledOut};
+    ghost use Rattle.evidence.specs.Evidence.{AreDocuments};
 
     ghost Value = { Unproven };
 
     ghost view = { λ c. record { events = c.history; conflicts = c.conflicts } };
 
     ghost invariant = { λ c. IsHistory c.history × HasNoUnpairedCover c.conflicts c.history
-        × AreDocuments c.history c.unordered.items × ListsRuledOut c.conflicts c.history c.unordered.items };
+        × AreDocuments c.history c.unordered.items };
 }
 
 impl Case {
-    // Returns the case of a history that no witnesses without a given pair cover. Of its documents only these
-    // may be ruled out.
+    // Returns the case of a history that no witnesses without a given pair cover. Of these documents of it no order was
+    // found.
     pub(crate) fn of(
         history: History,
         conflicts: Conflicts,
@@ -50,7 +50,6 @@ impl Case {
         requires history { IsHistory history }
         requires uncovered { HasNoUnpairedCover conflicts history }
         requires within { AreDocuments history unordered.items }
-        requires listed { ListsRuledOut conflicts history unordered.items }
         ensures { result ≡ record { events = history; conflicts = conflicts } }
     {
         Case {
@@ -77,10 +76,9 @@ impl Case {
         &self.history
     }
 
-    // Returns the numbers of the documents that may be ruled out.
+    // Returns the numbers of the documents for which no order was found at first.
     pub(crate) fn unordered(&self) -> &[usize]
-        ensures within { AreDocuments self.now.events result.now }
-        ensures listed { ListsRuledOut self.now.conflicts self.now.events result.now }
+        ensures { AreDocuments self.now.events result.now }
     {
         &self.unordered
     }

@@ -14,7 +14,7 @@ use doc_check::{DocAnswer, answer, is_complete};
 use doc_register::Conflicts;
 use events::{Event, History};
 use evidence::laws::evidence_refutes;
-use evidence::{Certainty, Refuted, is_document_ruled_out};
+use evidence::{Attempts, Certainty, Refuted, is_document_ruled_out};
 use std::alloc::Global;
 use version_pair::NoMemory;
 
@@ -82,18 +82,19 @@ fn is_without_order(
     }
 }
 
-// Whether the document of the call is ruled out.
+// Whether the document of the call is found to be ruled out.
 fn is_call_ruled_out(
     alloc: Global,
     history: &History,
     call: u64,
     conflicts: Conflicts,
+    attempts: Attempts,
 ) -> Result<bool, NoMemory>
     requires { IsHistory history.now }
-    ensures { IfOk result (λ ruled_out. IsTrue ruled_out ↔ IsCallRuledOut conflicts history.now call) }
+    ensures { IfOk result (λ ruled_out. IsTrue ruled_out → IsCallRuledOut conflicts history.now call) }
 {
     match document_of(history, call) {
-        Some(doc) => is_document_ruled_out(alloc, history, doc, conflicts),
+        Some(doc) => is_document_ruled_out(alloc, history, doc, conflicts, attempts),
         None => Ok(false),
     }
 }
@@ -120,11 +121,12 @@ fn certainty_without_evidence(
     history: &History,
     call: u64,
     conflicts: Conflicts,
+    attempts: Attempts,
 ) -> Result<Certainty, NoMemory>
     requires { IsHistory history.now }
     ensures { IfOk result (SaysOfCall conflicts history.now call) }
 {
-    if is_call_ruled_out(alloc, history, call, conflicts)? {
+    if is_call_ruled_out(alloc, history, call, conflicts, attempts)? {
         return Ok(Certainty::RuledOut);
     }
     if is_complete_history(history, conflicts) {
@@ -137,9 +139,14 @@ fn certainty_without_evidence(
 }
 
 /// Returns how much the answer says of the history of the case, by the evidence that was found, if any was,
-/// and the offence.
+/// and the offence. Lost writes may have been performed so often.
 #[tactic(auto, using(crate::proofs::CertaintyLemmas::said_is_proved))]
-pub fn certainty_of(alloc: Global, case: &Case, failing: &Failing) -> Result<Certainty, NoMemory>
+pub fn certainty_of(
+    alloc: Global,
+    case: &Case,
+    failing: &Failing,
+    attempts: Attempts,
+) -> Result<Certainty, NoMemory>
     // The evidence, if there is any, holds in the history of the case.
     requires { IfSome failing.now.evidence (Holds case.now.conflicts case.now.events) }
     // The result is what the definition says with this evidence, or without any by the call of the offence.
@@ -157,6 +164,9 @@ pub fn certainty_of(alloc: Global, case: &Case, failing: &Failing) -> Result<Cer
     match failing.evidence {
         Some(Refuted::RuledOut(_)) => Ok(Certainty::ReportedRuledOut),
         Some(_) => Ok(Certainty::Evident),
-        None => certainty_without_evidence(alloc, history, failing.offence.call, case.conflicts()),
+        None => {
+            let call = failing.offence.call;
+            certainty_without_evidence(alloc, history, call, case.conflicts(), attempts)
+        }
     }
 }

@@ -27,7 +27,7 @@ pub use case::Case;
 pub use certainty::{certainty_of, is_complete_case};
 pub use checking::{CheckFault, Verdict, check, check_alone};
 pub use counts::{CallNumbers, Counts, count_calls, count_left_out};
-pub use evidence::{Certainty, Refuted, RulingOut, refutes};
+pub use evidence::{Attempts, Certainty, Refuted, RulingOut, refutes};
 pub use finding::{Failing, Finding};
 pub use offence::{Offence, first_offence};
 pub use proof::Proof;

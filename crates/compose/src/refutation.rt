@@ -1,8 +1,9 @@
-ghost use Rattle.std.specs.Prelude.{◌≡◌, None as Nothing, IfOk, IfSome};
-ghost use Rattle.evidence.specs.Evidence.{Holds, IsOfCalls, IsReported, IsWithoutRuledOut};
+ghost use Rattle.std.specs.Prelude.{IfOk, IfSome};
+ghost use Rattle.evidence.specs.Evidence.{AreDocuments, Holds, IsOfCalls, IsReported};
 
 use crate::case::Case;
-use evidence::{Refuted, RulingOut, find_evidence};
+use events::History;
+use evidence::{Attempts, Refuted, RulingOut, find_evidence};
 use std::alloc::Global;
 use version_pair::NoMemory;
 
@@ -21,17 +22,33 @@ pub fn refute(alloc: Global, case: &Case) -> Result<Option<Refuted>, NoMemory>
     find_evidence(alloc, case.history(), case.conflicts())
 }
 
-/// Returns the evidence that a document of the case's history is provably not linearizable (ruled out), with
-/// conflicts read as the case reads them: the least call at which one is. Returns `None` if no document is.
-/// Only the documents for which no order was found are checked: the others have one.
-pub fn rule_out(alloc: Global, case: &Case) -> Result<Option<Refuted>, NoMemory>
+// Returns the numbers of all documents of the history.
+fn all_documents(alloc: Global, history: &History) -> Result<Vec<usize>, NoMemory>
+    ensures { IfOk result (λ docs. AreDocuments history.now docs.items) }
+{
+    let mut docs = Vec::new(alloc);
+    for doc in 0..history.docs() {
+        docs.push(doc)?;
+    }
+    Ok(docs)
+}
+
+/// Returns evidence that a document of the case's history is provably not linearizable (ruled out), with
+/// conflicts read as the case reads them, if its lost writes were performed so often: the least call at which
+/// one is found to be. Only the documents for which no order was found are checked; if each has one by itself, so
+/// that only the pairs of the shard fail, all are. `None` says nothing.
+pub fn rule_out(alloc: Global, case: &Case, attempts: Attempts) -> Result<Option<Refuted>, NoMemory>
     // Evidence that is found holds in the history.
     ensures holds { IfOk result (λ found. IfSome found (Holds case.now.conflicts case.now.events)) }
-    // No document is provably not linearizable at a call with a lesser number.
-    ensures least { IfOk result (λ found. IfSome found (IsReported RulingOut.On case.now.conflicts case.now.events)) }
-    // If none is found, no document of the history is provably not linearizable.
-    ensures none { IfOk result (λ found. found ≡ Nothing
-        → IsWithoutRuledOut case.now.conflicts case.now.events) }
+    // It may be reported if that a document is ruled out is asked for.
+    ensures reportable { IfOk result (λ found. IfSome found (IsReported RulingOut.On)) }
 {
-    evidence::rule_out(alloc, case.history(), case.conflicts(), case.unordered())
+    let history = case.history();
+    let conflicts = case.conflicts();
+    let unordered = case.unordered();
+    if unordered.is_empty() {
+        let all = all_documents(alloc, history)?;
+        return evidence::rule_out(alloc, history, conflicts, attempts, &all);
+    }
+    evidence::rule_out(alloc, history, conflicts, attempts, unordered)
 }

@@ -90,7 +90,7 @@ next_known records vs lower p (Some v) known least is =
 -- ---- the least pair that is free
 
 -- each pair above the lower one is from the least of these on
-from_least : (lower : Option Pair) (c r : Pair) → IsLeastAbove lower (Some c) → IsAbove lower r → IsFrom c r
+pub from_least : (lower : Option Pair) (c r : Pair) → IsLeastAbove lower (Some c) → IsAbove lower r → IsFrom c r
 from_least lower c r least above low = by_order (least.1 r above) where
   by_order : (c ≡ r) ⊎ IsBelow c r → ⊥
   by_order (inl same) = not_below_itself c (subst (λ p. IsBelow p c) (sym same) low)
@@ -107,10 +107,6 @@ above_least lower c f least from = by_order (pair_order c f) where
   by_order (inl over) = by_pair lower least.0 over
   by_order (inr (inl same)) = subst (IsAbove lower) same least.0
   by_order (inr (inr low)) = absurd (from low)
-
--- no pair is above the lower one
-pub none_free : (facts : Facts) (records : List Rec) (lower : Option Pair) → IsLeastAbove lower None → IsFreeAbove facts records lower None
-none_free facts records lower least r above unknown own = absurd (least r above)
 
 -- a pair that may be free isn't kept
 not_kept : (facts : Facts) (ends : BTreeMap Pair (Option Pair)) (r : Pair) → facts.elsewhere ≡ is_kept ends → facts.elsewhere r ≡ false → is_kept ends r ≡ true → ⊥

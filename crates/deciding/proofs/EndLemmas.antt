@@ -1,13 +1,14 @@
 -- Pairs that are kept with the least pairs above them that are not.
-use Rattle.std.proofs.Common.{ℕ, ◌≡◌, ◌≢◌, ◌⊎◌, inl, inr, refl, sym, ap, subst, ◌∙◌, true, false, true≢false, Option, Some, None, is_some}
+use Rattle.std.proofs.Common.{ℕ, ◌≡◌, ◌≢◌, ◌<◌, ◌≤◌, ◌⊎◌, inl, inr, List, refl, sym, ap, subst, ◌∙◌, true, false, true≢false, Option, Some, None, get_or, is_some, slice_get, arith, suc}
 use Rattle.std.specs.BTreeMap.{BTreeMap, Updates, get}
 use Rattle.std.specs.Cmp.{Equal-is}
-use Rattle.std.specs.Prelude.{IfSome}
+use Rattle.std.specs.Prelude.{IfSome, IsSorted}
 use Rattle.std.specs.Result.{OnOk}
 use Rattle.std.proofs.Common.{Result, Ok, Err}
 use Rattle.std.specs.Ordering.{is_eq, nat_cmp}
 use Rattle.std.specs.declared.cmp.Ordering.TheVariants.{Equal}
-use Rattle.std.proofs.lemmas.Bool.{false_from_ne_true}
+use Rattle.std.proofs.lemmas.Bool.{cases_lt, false_from_ne_true}
+use Rattle.std.proofs.lemmas.Option.{get_or_from_slice_get, slice_get_within}
 use Rattle.std.proofs.lemmas.Map.Lookups.{exact_pairs, exact_unsigned}
 use Rattle.version_pair.specs.declared.pair.Pair.{Pair}
 use Rattle.version_pair.specs.PairOrder.{IsBelow}
@@ -18,7 +19,9 @@ use Rattle.deciding.specs.aids.Above.{IsLeastAbove}
 use Rattle.deciding.specs.Elsewhere.{is_kept}
 use Rattle.deciding.specs.aids.Ends.{AreAbove, HasEnds, IsFreeFrom, IsFrom}
 use Rattle.write_chain.specs.Chain.{pair_cmp}
+use Rattle.deciding.proofs.BesideLemmas.{from_least}
 use Rattle.deciding.proofs.Counts.{pair_order}
+use Rattle.deciding.proofs.KnownLemmas.{later_not_below}
 
 -- two pairs that don't differ by their order are one
 apart : (p q : Pair) → q ≢ p → is_eq (pair_cmp p q) ≡ false
@@ -75,6 +78,12 @@ still_kept old new pair end q too is = by_order (pair_order q pair) where
   by_order (inr (inl same)) = ap (is_kept new) same ∙ ap is_some too.own
   by_order (inr (inr high)) = other (λ same. not_below_itself pair (subst (IsBelow pair) same high))
 
+-- the pair itself and those that were kept are
+pub stays_kept : (old new : BTreeMap Pair (Option Pair)) (pair : Pair) (end : Option Pair) (q : Pair) → IsKeptToo old new pair end
+    → (q ≡ pair) ⊎ (is_kept old q ≡ true) → is_kept new q ≡ true
+stays_kept old new pair end q too (inl same) = ap (is_kept new) same ∙ ap is_some too.own
+stays_kept old new pair end q too (inr is) = still_kept old new pair end q too is
+
 -- from a pair on: itself, or from the least one above it on
 itself_or_above : (pair r : Pair) → IsFrom pair r → (r ≡ pair) ⊎ IsBelow pair r
 itself_or_above pair r from = by_order (pair_order r pair) where
@@ -82,12 +91,6 @@ itself_or_above pair r from = by_order (pair_order r pair) where
   by_order (inl low) = absurd (from low)
   by_order (inr (inl same)) = inl same
   by_order (inr (inr high)) = inr high
-
-from_next : (pair next r : Pair) → IsLeastAbove (Some pair) (Some next) → IsBelow pair r → IsFrom next r
-from_next pair next r least high low = by_order (least.1 r high) where
-  by_order : (next ≡ r) ⊎ IsBelow next r → ⊥
-  by_order (inl same) = not_below_itself r (subst (IsBelow r) same low)
-  by_order (inr over) = not_both_below next r over low
 
 -- the least free pair from the next one on is that from the pair on, once the pair is kept
 pub end_after : (old new : BTreeMap Pair (Option Pair)) (pair : Pair) (end next : Option Pair) → IsKeptToo old new pair end → IsLeastAbove (Some pair) next
@@ -99,7 +102,7 @@ end_after old new pair end None too least free none = subst (IsFreeFrom new pair
 end_after old new pair None (Some n) too least free none = λ r from. by_place r (itself_or_above pair r from) where
   by_place : (r : Pair) → (r ≡ pair) ⊎ IsBelow pair r → is_kept new r ≡ true
   by_place r (inl same) = ap (is_kept new) same ∙ ap is_some too.own
-  by_place r (inr high) = still_kept old new pair None r too (free n refl r (from_next pair n r least high))
+  by_place r (inr high) = still_kept old new pair None r too (free n refl r (from_least (Some pair) n r least high))
 end_after old new pair (Some f) (Some n) too least free none = (λ low. by_order low (pair_order n f), ap is_some (too.others f other) ∙ from.1, λ r from below. by_place r below (itself_or_above pair r from)) where
   from : IsFreeFrom old n (Some f)
   from = free n refl
@@ -114,7 +117,7 @@ end_after old new pair (Some f) (Some n) too least free none = (λ low. by_order
 
   by_place : (r : Pair) → IsBelow r f → (r ≡ pair) ⊎ IsBelow pair r → is_kept new r ≡ true
   by_place r below (inl same) = ap (is_kept new) same ∙ ap is_some too.own
-  by_place r below (inr high) = still_kept old new pair (Some f) r too (from.2 r (from_next pair n r least high) below)
+  by_place r below (inr high) = still_kept old new pair (Some f) r too (from.2 r (from_least (Some pair) n r least high) below)
 
 -- with the pair all have their ends, if it is below those that were kept
 pub ends_too : (old new : BTreeMap Pair (Option Pair)) (pair : Pair) (end : Option Pair) → IsKeptToo old new pair end → HasEnds old
@@ -159,3 +162,49 @@ above_lower ends (Some l) pair p above below kept = by_order (pair_order l p) wh
 pub from_itself : (pair p : Pair) → (p ≡ pair) ⊎ IsBelow pair p → IsFrom pair p
 from_itself pair p (inl same) low = not_below_itself pair (subst (λ q. IsBelow q pair) same low)
 from_itself pair p (inr high) low = not_both_below pair p high low
+
+-- ---- the pairs of a list that rises
+
+-- one of the list at this place or behind it
+pub record IsInFrom (pairs : List Pair) (from : ℕ) (q : Pair) : Type 0 where
+  pub index : ℕ
+  pub after : from ≤ index
+  pub at : slice_get pairs index ≡ Some q
+
+-- the last one is kept, if there is one
+abbrev pub IsLastKept : BTreeMap Pair (Option Pair) → Option Pair → Type 0
+IsLastKept ends last = (l : Pair) → last ≡ Some l → is_kept ends l ≡ true
+
+-- a pair of the list that is not below the last one, which stands behind it, is the last one
+pub last_itself : (pairs : List Pair) (i : ℕ) (p : Pair) (ends : BTreeMap Pair (Option Pair)) (last : Option Pair) → IsSorted pair_cmp pairs
+    → slice_get pairs i ≡ Some p → (¬ IfSome last (IsBelow p)) → IsLastKept ends last
+    → ((q : Pair) → is_kept ends q ≡ true → IsInFrom pairs i q) → is_kept ends p ≡ true
+last_itself pairs i p ends None sorted at not kept behind = absurd (not tt)
+last_itself pairs i p ends (Some l) sorted at not kept behind = by_order (pair_order p l) where
+  there : IsInFrom pairs i l
+  there = behind l (kept l refl)
+
+  by_order : IsBelow p l ⊎ ((p ≡ l) ⊎ IsBelow l p) → is_kept ends p ≡ true
+  by_order (inl low) = absurd (not low)
+  by_order (inr (inl same)) = ap (is_kept ends) same ∙ kept l refl
+  by_order (inr (inr high)) =
+      let first : get_or pairs i p ≡ p = get_or_from_slice_get pairs i p p at in
+      let second : get_or pairs there.index p ≡ l = get_or_from_slice_get pairs there.index l p there.at in
+      absurd (later_not_below pairs i there.index p sorted there.after (slice_get_within pairs there.index l there.at)
+      (subst (λ x. IsBelow x (get_or pairs i p)) (sym second) (subst (IsBelow l) (sym first) high)))
+
+-- one from a place on stands there, or is one from the next place on
+pub here_or_later : (pairs : List Pair) (j i : ℕ) (p q : Pair) → i ≤ suc j → slice_get pairs j ≡ Some p → IsInFrom pairs j q → (q ≡ p) ⊎ IsInFrom pairs i q
+here_or_later pairs j i p q next at is = by_place (cases_lt j is.index) where
+  by_place : ((j < is.index) ⊎ (is.index ≤ j)) → (q ≡ p) ⊎ IsInFrom pairs i q
+  by_place (inl later) = inr (record { index = is.index; after = omega arith; at = is.at })
+  by_place (inr within) =
+      let after : j ≤ is.index = is.after in
+      let one : is.index ≡ j = omega arith in
+      inl (same_some q p (sym is.at ∙ (ap (slice_get pairs) one ∙ at)))
+
+-- one from a place on is one from an earlier place on
+pub from_earlier : (pairs : List Pair) (j i : ℕ) (q : Pair) → j ≤ i → IsInFrom pairs i q → IsInFrom pairs j q
+from_earlier pairs j i q less is =
+    let after : i ≤ is.index = is.after in
+    record { index = is.index; after = omega arith; at = is.at }

@@ -16,12 +16,11 @@ use Rattle.events.specs.Events.{IsReplyAt}
 use Rattle.events.specs.Order.{Placed}
 use Rattle.version_pair.proofs.ListLemmas.{none_is_not_some, same_some}
 use Rattle.deciding.specs.Reported.{IsKnown, known_pairs}
-use Rattle.deciding.specs.Positions.{IsNext, taking_position, version_of}
+use Rattle.deciding.specs.Positions.{taking_position, version_of}
 use Rattle.deciding.specs.Branches.{is_among, is_same_pair, position}
 use Rattle.deciding.proofs.Counts.{gap_grows, known_or_not, version_before_gap}
 use Rattle.deciding.proofs.DocumentSteps.{exceeds_above, pair_reached, reached_pair}
-use Rattle.deciding.proofs.OrderedSteps.{Explained, IsEntry, IsRecordOf, IsTaken, call_of, doc_at, heard_reported, lesser_first, performs_at, reached_after, reached_later, recs, stands_first}
-use Rattle.deciding.proofs.ReportedStates.{known_taken}
+use Rattle.deciding.proofs.OrderedSteps.{Explained, IsEntry, IsRecordOf, IsTaken, call_of, doc_at, heard_reported, lesser_first, performs_at, reached_later, recs, stands_first}
 
 -- ---- positions
 
@@ -134,17 +133,6 @@ taken_below x i p q v k e takes below = by_order (cases_lt k.place i) (cases_lt 
       let one : p ≡ k.placed = same_some p k.placed (sym e.at ∙ (ap (slice_get x.order) same ∙ k.entry.at)) in
       let pair : q ≡ v = same_some q v (sym takes ∙ (ap (λ (y : Placed). pair_taken y.entry.reply y.entry.hidden) one ∙ k.takes)) in
       absurd (not_below_itself v (subst (IsBelow v) pair below))
-
--- no known pair lies between the one that a document has and one that is taken next
-pub next_at : (x : Explained) (i : ℕ) (p : Placed) (c q : Pair) → IsEntry x i p → pair_taken p.entry.reply p.entry.hidden ≡ Some q → last_pair (doc_at x i) ≡ Some c → IsNext (recs x) c q
-next_at x i p c q e takes is v known above below =
-    let k = known_taken x v known in
-    let first : k.place < i = taken_below x i p q v k e takes below in
-    let has = reached_pair (doc_at x i) v (reached_after x k.place i k.placed v first k.entry k.takes) in
-    by_pair has.0 (same_some has.0 c (sym has.1 ∙ is)) has.2 where
-      by_pair : (r : Pair) → r ≡ c → ((v ≡ r) ⊎ IsBelow v r) → ⊥
-      by_pair r same (inl one) = not_below_itself c (subst (IsBelow c) (one ∙ same) above)
-      by_pair r same (inr lower) = not_both_below c v above (subst (IsBelow v) same lower)
 
 -- ---- calls
 

@@ -1,5 +1,5 @@
 -- What replies say of a document, against what it is at the places of an order that explains its history.
-use Rattle.std.proofs.Common.{ℕ, suc, ◌≡◌, ◌⊎◌, inl, inr, refl, sym, ap, subst, ◌∙◌, Bool, true, not, true≢false, Option, Some, None, option_and_then}
+use Rattle.std.proofs.Common.{ℕ, suc, ◌≡◌, ◌⊎◌, inl, inr, refl, sym, ap, subst, ◌∙◌, Bool, true, not, Option, Some, None, option_and_then}
 use Rattle.version_pair.specs.declared.pair.Pair.{Pair}
 use Rattle.doc_register.specs.declared.op.Op.{Op}
 use Rattle.doc_register.specs.declared.op.Op.TheVariants.{Get, Index, Delete, Create}
@@ -14,7 +14,7 @@ use Rattle.events.specs.declared.record.Rec.{Rec}
 use Rattle.events.specs.Heard.{pair_of}
 use Rattle.events.specs.Order.{Placed}
 use Rattle.version_pair.proofs.ListLemmas.{none_is_not_some, same_some}
-use Rattle.deciding.specs.Reported.{IsGone, IsKnown, IsListed, IsReportedOf, condition_met, pair_shown}
+use Rattle.deciding.specs.Reported.{IsKnown, IsListed, IsReportedOf, condition_met, pair_shown}
 use Rattle.deciding.proofs.Counts.{IsShown, known_shown}
 use Rattle.deciding.proofs.DocumentSteps.{leaves_it, meets, met_pair}
 use Rattle.deciding.proofs.OrderedSteps.{Explained, IsAnswered, IsRecordOf, IsTaken, answered, doc_at, performs_at, place_in, recs, same_state, step_at, taken_for}
@@ -213,32 +213,3 @@ unreported_here x v j known unreported is = by_part (known_shown (recs x) v know
       let a = met_at x s.call v s.listed met in
       let had = met_pair (doc_at x a.0) v a.1 in
       ap is_here (same_state x j a.0 (is ∙ sym had.0)) ∙ had.1
-
--- where the document is gone with a known pair a reply says so
-pub gone_reported : (x : Explained) (v : Pair) (j : ℕ) → IsKnown (recs x) v → doc_at x j ≡ Gone v → IsGone (recs x) v
-gone_reported x v j known gone = by_part (known_shown (recs x) v known) (known_shown (recs x) v known).shows where
-  never_both : (s : IsShown (recs x) v) (t : DocState) → state_shown s.call.op s.call.heard ≡ Some t → last_pair t ≡ Some v → Gone v ≡ t
-  never_both s t is pair =
-      let a = state_at x s.call t s.listed is in
-      sym gone ∙ (same_state x j a.0 (ap last_pair gone ∙ (sym pair ∙ ap last_pair (sym a.1))) ∙ a.1)
-
-  by_heard : (s : IsShown (recs x) v) (o : Option (ℕ × Answer)) → s.call.heard ≡ o → pair_shown o ≡ Some v → IsGone (recs x) v
-  by_heard s None heard shows = absurd (none_is_not_some v shows)
-  by_heard s (Some (y, Indexed q created)) heard shows =
-      let k : ℕ = place_in x.order s.call.no in
-      let a = answered x s.call y (Indexed q created) s.listed heard in
-      let did = did_index (doc_at x k) s.call.op q created a.placed.entry.hidden (doc_at x (suc k)) (reported_step x s.call (Indexed q created) a) in
-      let impossible : Gone v ≡ Here q did.value = sym gone ∙ (same_state x j (suc k) (ap last_pair gone ∙ (sym shows ∙ ap last_pair (sym did.left))) ∙ did.left) in
-      absurd (cc)
-  by_heard s (Some (y, Deleted q found)) heard shows =
-      record { call = s.call; listed = s.listed; replied = y; found = found; heard = heard ∙ ap (λ p. Some (y, Deleted p found)) (same_some q v shows) }
-  by_heard s (Some (y, Found q k)) heard shows = let impossible : Gone v ≡ Here q k = never_both s (Here q k) (ap (state_shown s.call.op) heard) shows in absurd (cc)
-  by_heard s (Some (y, Missing)) heard shows = absurd (none_is_not_some v shows)
-  by_heard s (Some (y, Conflict)) heard shows = absurd (none_is_not_some v shows)
-
-  by_part : (s : IsShown (recs x) v) → (pair_shown s.call.heard ≡ Some v) ⊎ (condition_met s.call ≡ Some v) → IsGone (recs x) v
-  by_part s (inl shows) = by_heard s s.call.heard refl shows
-  by_part s (inr met) =
-      let a = met_at x s.call v s.listed met in
-      let had = met_pair (doc_at x a.0) v a.1 in
-      absurd (true≢false (sym had.1 ∙ ap is_here (same_state x a.0 j (had.0 ∙ ap last_pair (sym gone)) ∙ gone)))

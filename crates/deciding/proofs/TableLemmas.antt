@@ -1,16 +1,16 @@
 -- Tables of rows.
-use Rattle.std.proofs.Common.{ℕ, suc, ◌≡◌, ◌≢◌, ◌<◌, ◌≤◌, ◌⊎◌, ◌++◌, ◌&&◌, inl, inr, List, [], ◌∷◌, length, refl, set, sym, ap, subst, ◌∙◌, arith, Bool, true, false, not, cond, Some, slice_get}
+use Rattle.std.proofs.Common.{ℕ, suc, ◌≡◌, ◌≢◌, ◌<◌, ◌≤◌, ◌⊎◌, ◌++◌, ◌&&◌, inl, inr, List, [], ◌∷◌, length, set, sym, ap, subst, ◌∙◌, arith, Bool, true, not, Some, slice_get}
 use Rattle.std.proofs.lemmas.Bool.{cases_eq, cases_lt, not_from_false}
 use Rattle.version_pair.proofs.ListLemmas.{get_front, get_last, get_snoc, get_within, mapped_from, same_some, slice_get-set_other, slice_get-set_same}
 use Rattle.deciding.specs.Facts.{Facts}
 use Rattle.events.specs.declared.record.Rec.{Rec}
 use Rattle.deciding.specs.declared.row.Row.{Row}
-use Rattle.deciding.specs.Branches.{Branch, Covers, IsBranchOf, IsCovered, is_in, position}
+use Rattle.deciding.specs.Branches.{Branch, Covers, IsBranchOf, IsCovered, position}
 use Rattle.deciding.specs.aids.Rows.{IsPositioned, branch_of}
 use Rattle.deciding.specs.aids.StepsOf.{ArePositioned, AreSteps, IsRowOf}
 use Rattle.deciding.specs.aids.TablesOf.{AddsRow, ArePlacedIn, AreStepsMet, GrowsTable, HasPositions, IsClosed, IsPlacedIn, KeepsTable, KeepsTables, PushesRow, table_of}
 use Rattle.deciding.specs.declared.tables.ReplyTables.{ReplyTables}
-use Rattle.deciding.specs.Steps.{MayPerform, is_owed, performed}
+use Rattle.deciding.specs.Steps.{MayPerform, performed}
 use Rattle.deciding.specs.Tables.{AreLeftAtCall, AreLeftAtReply, IsMet, IsPlaced, is_past, is_served, may_come_later, owing, settled}
 use Rattle.deciding.specs.aids.Walks.{AreSettledIn, IsOwingIn}
 use Rattle.std.proofs.lemmas.Option.{slice_get_within}
@@ -24,10 +24,6 @@ in_table rows row (i, at) = (i, mapped_at branch_of rows i row at)
 -- and each branch of a table is that of a row
 pub row_of_branch : (rows : List Row) (b : Branch) → IsBranchOf (table_of rows) b → (row : Row) × IsRowOf rows row × (branch_of row ≡ b)
 row_of_branch rows b (i, at) = let m = mapped_from branch_of rows i b at in (m.0, (i, m.1), m.2)
-
--- a table keeps its own rows
-pub same_table : (records : List Rec) (rows : List Row) → ArePositioned records rows → KeepsTable records rows rows
-same_table records rows placed = record { covered = λ b is. is; positioned = placed }
 
 table_kept_on : (records : List Rec) (a b c : List Row) → KeepsTable records a b → KeepsTable records b c → KeepsTable records a c
 table_kept_on records a b c one two = record { covered = λ x is. two.covered x (one.covered x is); positioned = two.positioned }
@@ -60,10 +56,6 @@ pushed_row records old new row is all placed = record {
   by_place : (r : Row) → {i : ℕ} → (slice_get old i ≡ Some r) ⊎ ((i ≡ length old) × (row ≡ r)) → IsPositioned records r
   by_place r {i} (inl at) = all r (i, at)
   by_place r (inr (here, same)) = subst (IsPositioned records) same placed
-
--- it has its rows if a row of it covers the new one
-pub row_covered : (records : List Rec) (rows : List Row) (row : Row) → ArePositioned records rows → IsCovered records (table_of rows) (branch_of row) → PushesRow records row rows rows
-row_covered records rows row all covers = record { grows = record { rows = λ i r at. at; positioned = all }; covers = covers }
 
 -- in place of one that it covers
 pub replaced_row : (records : List Rec) (rows : List Row) (at : ℕ) (old row : Row) → slice_get rows at ≡ Some old → ArePositioned records rows → IsPositioned records row
@@ -219,24 +211,6 @@ left_at_call records number call rows next all b has past =
     let row = row_of_branch rows b has in
     subst (λ a. IsCovered records (table_of next) (owing number call a)) row.2
     (all row.1.0 row.0 row.1.1 (ap (λ (a : Branch). is_past records (position records a.least) call.heard) row.2 ∙ past))
-
--- a call that isn't owed leaves all rows as they are
-pub left_as_it_is : (records : List Rec) (number : ℕ) (call : Rec) (table : List Branch) → is_owed call ≡ false → AreLeftAtCall records number call table table
-left_as_it_is records number call table unowed b has past = (
-  b,
-  has,
-  record {
-    place = refl;
-    exists = refl;
-    least = (covers_itself records b).least;
-    flipped = (covers_itself records b).flipped;
-    arrived = (covers_itself records b).arrived;
-    owed = λ i is. subst (λ c. is_in i (cond c (number ∷ b.owed) b.owed) ≡ true) (sym unowed) is;
-    spent = λ i is. is;
-    deletes = omega arith;
-    makes = omega arith;
-  },
-)
 
 -- what is left behind a reply, from the tables at it
 pub left_at_reply : (facts : Facts) (records : List Rec) (event number : ℕ) (call : Rec) (front next : List Row) (tables : ReplyTables) → ArePlacedIn facts.conflicts records number call tables front

@@ -2,11 +2,10 @@
 -- written. If n known pairs are below a pair, a call that takes it has the position 2n + 1; a document that
 -- has it has the position 2n + 2 if the pair is known, and otherwise 2n + 1. So positions don't fall along an
 -- order of the calls.
-use Rattle.std.specs.Prelude.{◌*◌, ◌==◌, ◌&&◌, ◌||◌, ℕ, suc, Bool, List, [], ◌∷◌, cond, nat_lt, Option, None, Some}
+use Rattle.std.specs.Prelude.{◌*◌, ◌==◌, ◌&&◌, ◌||◌, ℕ, suc, Bool, List, [], ◌∷◌, cond, nat_lt}
 use Rattle.version_pair.specs.declared.pair.Pair.{Pair}
-use Rattle.version_pair.specs.PairOrder.{IsBelow}
 use Rattle.events.specs.declared.record.Rec.{Rec}
-use Rattle.deciding.specs.Reported.{IsKnown, known_pairs}
+use Rattle.deciding.specs.Reported.{known_pairs}
 
 -- the first pair is below the second
 abbrev pub is_below : Pair → Pair → Bool
@@ -26,13 +25,3 @@ taking_position records p = suc (2 * count_below (known_pairs records) p)
 -- Source: profile.
 abbrev pub version_of : List Rec → Pair → ℕ
 version_of records p = suc (taking_position records p)
-
--- no known pair is between the two
-abbrev pub IsNext : List Rec → Pair → Pair → Type 0
-IsNext records p q = (v : Pair) → IsKnown records v → IsBelow p v → ¬ IsBelow v q
-
--- the position of the document after a call that was at n: that of the pair which the call took, if it was
--- performed, otherwise n
-abbrev pub position_after : List Rec → Option Pair → ℕ → ℕ
-position_after records None n = n
-position_after records (Some q) n = version_of records q

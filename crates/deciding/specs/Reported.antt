@@ -1,9 +1,9 @@
 -- What the replies to a document's calls say of it. The records are those of one document.
-use Rattle.std.specs.Prelude.{◌≡◌, ◌++◌, ℕ, Bool, List, [], ◌∷◌, Option, Some, option_and_then, slice_get}
+use Rattle.std.specs.Prelude.{◌≡◌, ◌++◌, ℕ, List, [], ◌∷◌, Option, Some, option_and_then, slice_get}
 use Rattle.std.specs.Option.{option_to_list}
 use Rattle.version_pair.specs.declared.pair.Pair.{Pair}
 use Rattle.doc_register.specs.declared.reply.Reply.{Reply}
-use Rattle.doc_register.specs.declared.reply.Reply.TheVariants.{Deleted, Found}
+use Rattle.doc_register.specs.declared.reply.Reply.TheVariants.{Found}
 use Rattle.doc_register.specs.Register.{condition_of, pair_of_reply}
 use Rattle.events.specs.declared.record.Rec.{Rec}
 use Rattle.events.specs.Heard.{pair_of}
@@ -37,16 +37,6 @@ IsKnown records p = (i : ℕ) × (slice_get (known_pairs records) i ≡ Some p)
 -- a reply says which call took the pair: a write that was performed with it
 abbrev pub IsReportedOf : List Rec → Pair → Type 0
 IsReportedOf records p = (r : Rec) × IsListed records r × (pair_of r.heard ≡ Some p)
-
--- a reply says that the document was deleted with the pair
-pub record IsGone (records : List Rec) (p : Pair) : Type 0 where
-  pub call : Rec
-  -- a call of the records
-  pub listed : IsListed records call
-  pub replied : ℕ
-  pub found : Bool
-  -- its reply is Deleted with the pair
-  pub heard : call.heard ≡ Some (replied, Deleted p found)
 
 -- a reply says that the document had the number with the pair
 pub record IsFoundWith (records : List Rec) (p : Pair) (k : ℕ) : Type 0 where

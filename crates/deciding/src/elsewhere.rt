@@ -1,10 +1,10 @@
 //! Pairs that other documents of a shard are known to have.
 
-ghost use Rattle.std.specs.Prelude.{◌≡◌, ◌≢◌, ◌⊎◌, ◌↔◌, IfOk, IfSome, IsTrue, OnOk, Some as Just, None as Nothing, ℕ, true, slice_get};
+ghost use Rattle.std.specs.Prelude.{◌≡◌, ◌≢◌, ◌⊎◌, ◌↔◌, IfOk, IfSome, IsSorted, IsTrue, OnOk, Some as Just, None as Nothing, ℕ, true, slice_get};
 ghost use Rattle.std.specs.BTreeMap.{get};
 ghost use Rattle.version_pair.specs.declared.pair.Pair.{Pair as PairOf};
 ghost use Rattle.version_pair.specs.PairOrder.{IsBelow};
-ghost use Rattle.deciding.specs.Elsewhere.{is_kept};
+ghost use Rattle.deciding.specs.Elsewhere.{IsIn, is_kept};
 ghost use Rattle.deciding.specs.aids.Ends.{AreAbove, HasEnds, IsFreeFrom};
 ghost use Rattle.write_chain.specs.Chain.{pair_cmp};
 
@@ -57,6 +57,7 @@ fn set_end(
 // Keeps the pair, which is below all that are kept.
 fn keep(ends: &mut BTreeMap<Pair, Option<Pair>>, pair: Pair) -> Result<(), NoMemory>
     ensures kept { OnOk result ((q : PairOf) → is_kept ends.new q ≡ true → (q ≡ pair) ⊎ (is_kept ends.old q ≡ true)) }
+    ensures stays { OnOk result ((q : PairOf) → (q ≡ pair) ⊎ (is_kept ends.old q ≡ true) → is_kept ends.new q ≡ true) }
     ensures ends { OnOk result (HasEnds ends.old → ((p : PairOf) → is_kept ends.old p ≡ true → IsBelow pair p) → HasEnds ends.new) }
 {
     let end = match least_above(Some(pair)) {
@@ -66,9 +67,11 @@ fn keep(ends: &mut BTreeMap<Pair, Option<Pair>>, pair: Pair) -> Result<(), NoMem
     set_end(ends, pair, end)
 }
 
-// The pairs with the free ones above them, apart from pairs that are not below all that follow them.
+// The pairs of the list, which rises, with the free ones above them.
 fn ends_of(alloc: Global, pairs: &[Pair]) -> Result<BTreeMap<Pair, Option<Pair>>, NoMemory>
-    ensures listed { IfOk result (λ ends. (q : PairOf) → is_kept ends q ≡ true → (i : ℕ) × (slice_get pairs.now i ≡ Just q)) }
+    requires { IsSorted pair_cmp pairs.now }
+    ensures listed { IfOk result (λ ends. (q : PairOf) → is_kept ends q ≡ true → IsIn pairs.now q) }
+    ensures kept { IfOk result (λ ends. (q : PairOf) → IsIn pairs.now q → is_kept ends q ≡ true) }
     ensures ends { IfOk result HasEnds }
 {
     let mut ends = BTreeMap::new(alloc);
@@ -84,12 +87,13 @@ fn ends_of(alloc: Global, pairs: &[Pair]) -> Result<BTreeMap<Pair, Option<Pair>>
 }
 
 impl Elsewhere {
-    /// Returns the pairs of the list that are below all that follow them there: all of them, if the list rises.
-    pub fn of(alloc: Global, pairs: &[Pair]) -> Result<Elsewhere, NoMemory>
-        // Each of them is in the list.
-        ensures { IfOk result (λ elsewhere. (q : PairOf) → is_kept elsewhere.ends q ≡ true → (i : ℕ) × (slice_get pairs.now i ≡ Just q)) }
+    /// Returns the pairs of the list, which may stand in any order and more than once.
+    pub fn of(alloc: Global, mut pairs: Vec<Pair>) -> Result<Elsewhere, NoMemory>
+        // A pair is one of them exactly if it is in the list.
+        ensures { IfOk result (λ elsewhere. (q : PairOf) → (is_kept elsewhere.ends q ≡ true) ↔ IsIn pairs.items q) }
     {
-        let ends = ends_of(alloc, pairs)?;
+        pairs.sort_unstable();
+        let ends = ends_of(alloc, &pairs)?;
         Ok(Elsewhere { ends })
     }
 

@@ -5,7 +5,7 @@
 //! let records = history.records(doc)?;
 //! let mut budget = Budget::new();
 //! // Option<u64>: the call at which the document is ruled out.
-//! let elsewhere = Elsewhere::of(alloc, &pairs_of_other_documents)?;
+//! let elsewhere = Elsewhere::of(alloc, pairs_of_other_documents)?;
 //! let call = ruled_out_at(alloc, &records, Conflicts::Plain, &elsewhere, Attempts::Once, &mut budget)?;
 //! ```
 #![tactic(auto)]

@@ -13,7 +13,7 @@ mod LeavingLaws
 mod PrefixLaws
 pub mod CountLemmas
 pub mod AcceptedEvents
-mod ListedLemmas
+pub mod ListedLemmas
 pub mod OpenCalls
 pub mod PlaceLemmas
 mod CutLemmas

@@ -13,7 +13,7 @@ use Rattle.doc_register.specs.Run.{Entry, IsRun, State, Step, pair_taken}
 use Rattle.doc_register.proofs.RunLemmas.{AtMost, IsKind, leaves_pair, step_kind}
 use Rattle.doc_register.proofs.RunLaws.{pair_performs}
 use Rattle.events.specs.Events.{is_same}
-use Rattle.ruled_out.proofs.DocumentSteps.{step_keeps}
+use Rattle.deciding.proofs.DocumentSteps.{step_keeps}
 use Rattle.version_pair.proofs.ListLemmas.{none_is_not_some, same_some}
 
 -- the step of the document before which it has the pair or one above it

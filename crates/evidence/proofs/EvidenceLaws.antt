@@ -15,24 +15,18 @@ use Rattle.doc_register.specs.Run.{Entry, IsLegalRun, pair_taken, start, taken, 
 use Rattle.doc_register.proofs.RunLemmas.{AtMost, below_new, not_below_itself, not_both_below, step_kind, taken_of}
 use Rattle.doc_register.proofs.RunLaws.{no_pair_twice, pair_performs}
 use Rattle.events.specs.declared.event.Event.{Event}
-use Rattle.events.specs.declared.event.Event.TheVariants.{Call, Reply}
-use Rattle.events.specs.Events.{IsCallAt, IsHistory, PassesAt, Precedes, heard_of, is_call}
-use Rattle.events.specs.Order.{Explains, IsLinearizable, IsOfCall, Placed, run_of}
-use Rattle.events.proofs.HistoryLemmas.{call_passes}
+use Rattle.events.specs.Events.{IsCallAt, IsHistory, Precedes, heard_of}
+use Rattle.events.specs.Order.{IsLinearizable, IsOfCall, Placed, run_of}
 use Rattle.version_pair.proofs.ListLemmas.{mapped_from, none_is_not_some, same_some}
-use Rattle.events.specs.Heard.{taken_by}
-use Rattle.evidence.specs.Evidence.{EvidenceRefutes, HasNoWriter, IsPairTwice, IsPerformed, IsStaleGet, IsStaleSwap, MayTake}
+use Rattle.evidence.specs.Evidence.{EvidenceRefutes, HasNoWriter, IsPairTwice, IsStaleGet, IsStaleSwap, MayTake}
 use Rattle.evidence.specs.declared.refuted.Refuted.TheVariants as evidence
 use Rattle.evidence.proofs.EarlierSteps.{GivesNumber, IsGivenBefore, StepsAbove, above_taken, steps_from}
-use Rattle.evidence.proofs.CallsByNumber.{same_shard}
 use Rattle.evidence.proofs.HeardLemmas.{heard_is_reply}
 use Rattle.evidence.proofs.MissedWrites.{missed_write}
 use Rattle.evidence.proofs.PlacedCalls.{IsPlaced, IsPlacedWith, in_time, placed, placed_with, replied_so}
-use Rattle.events.proofs.EventLemmas.{same_call}
-use Rattle.ruled_out.proofs.PlacingLaws.{ruled_out_have_no_order}
-use Rattle.ruled_out.proofs.DocumentSteps.{meets}
-use Rattle.ruled_out.proofs.OrderedSteps.{mapped_at}
-use Rattle.ruled_out.proofs.ReportedStates.{found_has, shown_taken}
+use Rattle.deciding.proofs.WalkLaws.{ruled_out_have_no_order}
+use Rattle.deciding.proofs.DocumentSteps.{meets}
+use Rattle.deciding.proofs.ReportedStates.{found_has}
 
 -- ---- a pair twice
 
@@ -171,4 +165,4 @@ evidence_refutes conflicts events (evidence.StaleGet g w) history holds explaine
 evidence_refutes conflicts events (evidence.MissedWrite g w) history holds explained = missed_write conflicts events g w history holds explained
 evidence_refutes conflicts events (evidence.StaleSwap a b) history holds explained = stale_swap conflicts events a b history holds explained
 evidence_refutes conflicts events (evidence.RuledOut n) history holds explained =
-    ruled_out_have_no_order conflicts events holds.document.0 n history holds.ruled_out explained
+    ruled_out_have_no_order (record { conflicts = conflicts; elsewhere = holds.elsewhere }) events holds.document.0 n history holds.apart holds.ruled_out explained

@@ -7,3 +7,4 @@ mod MissedWrites
 pub mod EvidenceLaws
 mod EvidenceLemmas
 pub mod RuledOutLemmas
+mod KnownPairLemmas

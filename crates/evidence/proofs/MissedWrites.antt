@@ -16,12 +16,12 @@ use Rattle.doc_register.specs.Run.{pair_taken}
 use Rattle.doc_register.proofs.RunLemmas.{AtMost}
 use Rattle.events.specs.declared.event.Event.{Event}
 use Rattle.events.specs.Events.{IsCallAt, IsHistory, Precedes, heard_of}
-use Rattle.events.specs.Order.{Explains, IsLinearizable, IsOfCall, Placed}
+use Rattle.events.specs.Order.{IsLinearizable, IsOfCall, Placed}
 use Rattle.evidence.specs.Evidence.{IsMissedWrite, MayTakeAbove}
 use Rattle.evidence.proofs.HeardLemmas.{heard_is_reply}
 use Rattle.evidence.proofs.PlacedCalls.{IsPlaced, IsPlacedWith, in_time, placed, placed_with, replied_so}
-use Rattle.ruled_out.proofs.DocumentSteps.{leaves_it}
-use Rattle.ruled_out.proofs.OrderedSteps.{Explained, IsEntry, IsTaken, IsTakenFor, doc_at, performs_at, reached_after, same_place, step_at, taken_for}
+use Rattle.deciding.proofs.DocumentSteps.{leaves_it}
+use Rattle.deciding.proofs.OrderedSteps.{Explained, explained_by, IsEntry, IsTaken, IsTakenFor, doc_at, performs_at, reached_after, same_place, step_at, taken_for}
 
 -- a get that finds nothing stands where the document is missing
 missing_state : (s : DocState) (op : Op) (h : Option Pair) (t : DocState) → DocStep s op Missing h t → (s ≡ Never) ⊎ ((p : Pair) × (s ≡ Gone p))
@@ -70,28 +70,10 @@ at_most_gone p q s is most = subst (AtMost p) is most
 
 -- ---- the law
 
--- the document of the evidence, as the order explains it
-abbrev as_explained : (conflicts : Conflicts) (events : List Event) (order : List Placed) (d : List ℕ) → IsHistory events → Explains conflicts events order → Explained
-as_explained conflicts events order d history explains = record {
-  conflicts = conflicts;
-  events = events;
-  order = order;
-  doc = d;
-  history = history;
-  explains = record {
-    calls = explains.is_order.calls;
-    once = explains.is_order.once;
-    answered = λ k j n h op r replies called. explains.is_order.answered k n r replies;
-    plain = explains.is_order.plain;
-    respects = explains.respects;
-    legal = explains.legal;
-  };
-}
-
 pub missed_write : (conflicts : Conflicts) (events : List Event) (g w : ℕ) → IsHistory events → IsMissedWrite conflicts events g w → ¬ IsLinearizable conflicts events
 missed_write conflicts events g w history evidence (order, explains) = by_state (missing_state (doc_at x get.place) get.placed.entry.op get.placed.entry.hidden (doc_at x (suc get.place)) missing) where
   x : Explained
-  x = as_explained conflicts events order evidence.doc history explains
+  x = explained_by conflicts events order evidence.doc history explains
 
   get : IsPlaced order g evidence.get.shard evidence.doc evidence.get.op Missing
   get = placed conflicts events order history explains evidence.get.called g evidence.get.shard evidence.replied evidence.doc evidence.get.op Missing evidence.get.call evidence.get.heard

@@ -17,8 +17,8 @@ use Rattle.events.proofs.HistoryLemmas.{call_passes}
 use Rattle.evidence.specs.Evidence.{IsPerformed}
 use Rattle.evidence.proofs.CallsByNumber.{same_shard}
 use Rattle.evidence.proofs.HeardLemmas.{heard_is_reply}
-use Rattle.ruled_out.proofs.OrderedSteps.{mapped_at}
-use Rattle.ruled_out.proofs.ReportedStates.{shown_taken}
+use Rattle.deciding.proofs.OrderedSteps.{mapped_at}
+use Rattle.deciding.proofs.ReportedStates.{shown_taken}
 
 -- ---- answered calls in an order
 

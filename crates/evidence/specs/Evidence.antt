@@ -1,6 +1,6 @@
 -- Evidence in a history that no order of its calls explains it. That a write was performed means here that a
 -- reply shows it: Indexed or Deleted.
-use Rattle.std.specs.Prelude.{◌≡◌, ◌≢◌, ◌<◌, ◌≤◌, ◌⊎◌, ℕ, List, Option, Some, None, length, slice_get}
+use Rattle.std.specs.Prelude.{◌≡◌, ◌≢◌, ◌<◌, ◌⊎◌, ℕ, Bool, true, List, Option, Some, None, length, slice_get}
 use Rattle.version_pair.specs.declared.pair.Pair.{Pair}
 use Rattle.version_pair.specs.PairOrder.{IsBelow}
 use Rattle.doc_register.specs.declared.op.Op.{Op}
@@ -14,8 +14,8 @@ use Rattle.events.specs.declared.event.Event.{Event}
 use Rattle.events.specs.Events.{IsCallAt, IsHistory, Precedes, documents_of, heard_of, records_of}
 use Rattle.events.specs.Order.{IsLinearizable}
 use Rattle.events.specs.Heard.{taken_by}
-use Rattle.ruled_out.specs.Reported.{reported}
-use Rattle.ruled_out.specs.Placings.{IsRuledOut}
+use Rattle.deciding.specs.Laws.{IsElsewhere}
+use Rattle.deciding.specs.Tables.{IsRuledOut}
 use Rattle.evidence.specs.declared.refuted.Refuted.{Refuted}
 use Rattle.evidence.specs.declared.refuted.Refuted.TheVariants as evidence
 use Rattle.evidence.specs.declared.ruling_out.RulingOut.{RulingOut}
@@ -202,27 +202,22 @@ pub record IsStaleSwap (events : List Event) (a b : ℕ) : Type 0 where
   -- the first comes before the second: it precedes it, or its pair is below that of the second
   pub first : Precedes events a b ⊎ IsBelow pair later
 
--- a document of the history is ruled out at the call numbered n, by its records as reported
+-- a document of the history is ruled out at the call numbered n, by its records
 -- Source: profile.
 pub record IsRuledOutIn (conflicts : Conflicts) (events : List Event) (n : ℕ) : Type 0 where
   pub doc : ℕ
   pub document : List ℕ × ℕ
   -- the document is one of the history
   pub listed : slice_get (documents_of events) doc ≡ Some document
-  -- its records as reported are ruled out at the call (`IsRuledOut`)
-  pub ruled_out : IsRuledOut (reported conflicts (records_of events document.0)) n
+  pub elsewhere : Pair → Bool
+  -- these are pairs that other documents of its shard are known to have
+  pub apart : (q : Pair) → elsewhere q ≡ true → IsElsewhere events document.0 q
+  -- its records are ruled out at the call (`IsRuledOut`)
+  pub ruled_out : IsRuledOut (record { conflicts = conflicts; elsewhere = elsewhere }) (records_of events document.0) n
 
 -- the document of this number is ruled out at some call
 abbrev pub IsDocumentRuledOut : Conflicts → List Event → ℕ → Type 0
 IsDocumentRuledOut conflicts events doc = (n : ℕ) × (is : IsRuledOutIn conflicts events n) × (is.doc ≡ doc)
-
--- no document of the history is ruled out at any call
-abbrev pub IsWithoutRuledOut : Conflicts → List Event → Type 0
-IsWithoutRuledOut conflicts events = (n : ℕ) → ¬ IsRuledOutIn conflicts events n
-
--- each document that is ruled out is among these, which are given by their numbers
-abbrev pub ListsRuledOut : Conflicts → List Event → List ℕ → Type 0
-ListsRuledOut conflicts events docs = (n : ℕ) (is : IsRuledOutIn conflicts events n) → (i : ℕ) × (slice_get docs i ≡ Some is.doc)
 
 -- these are numbers of documents of the history
 abbrev pub AreDocuments : List Event → List ℕ → Type 0
@@ -248,20 +243,16 @@ IsOfCalls (evidence.MissedWrite g w) = Unit {0}
 IsOfCalls (evidence.StaleSwap a b) = Unit {0}
 IsOfCalls (evidence.RuledOut n) = ⊥
 
--- no document of the history is ruled out at a call with a lesser number
-abbrev pub IsLeastRuledOut : Conflicts → List Event → ℕ → Type 0
-IsLeastRuledOut conflicts events n = (m : ℕ) → IsRuledOutIn conflicts events m → n ≤ m
-
 -- The evidence may be reported. One or two calls always may; that a document is ruled out may be reported
--- only if that is asked for, and by the least call at which a document is.
+-- only if that is asked for.
 -- Source: profile.
-abbrev pub IsReported : RulingOut → Conflicts → List Event → Refuted → Type 0
-IsReported ruling conflicts events (evidence.PairTwice a b) = Unit {0}
-IsReported ruling conflicts events (evidence.NoWriter g) = Unit {0}
-IsReported ruling conflicts events (evidence.StaleGet g w) = Unit {0}
-IsReported ruling conflicts events (evidence.MissedWrite g w) = Unit {0}
-IsReported ruling conflicts events (evidence.StaleSwap a b) = Unit {0}
-IsReported ruling conflicts events (evidence.RuledOut n) = (ruling ≡ On) × IsLeastRuledOut conflicts events n
+abbrev pub IsReported : RulingOut → Refuted → Type 0
+IsReported ruling (evidence.PairTwice a b) = Unit {0}
+IsReported ruling (evidence.NoWriter g) = Unit {0}
+IsReported ruling (evidence.StaleGet g w) = Unit {0}
+IsReported ruling (evidence.MissedWrite g w) = Unit {0}
+IsReported ruling (evidence.StaleSwap a b) = Unit {0}
+IsReported ruling (evidence.RuledOut n) = ruling ≡ On
 
 -- ---- the law
 

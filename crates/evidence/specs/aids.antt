@@ -1,2 +1,3 @@
 pub mod CallsWithPairs
+pub mod KnownPairs
 pub mod RuledOutCalls

@@ -245,16 +245,19 @@ fn is_stale_swap(history: &History, one: u64, two: u64) -> bool
 /// history doesn't have is no evidence.
 ///
 /// Evidence of one or two calls takes at most one walk over the events, and no memory. Evidence that a
-/// document is provably not linearizable (`RuledOut`) takes a walk over the calls of each document up to that
-/// one, and sorts their pairs; only for this memory can be refused, which is the only error.
+/// document is provably not linearizable (`RuledOut`) takes a walk over its calls; only for this memory can be
+/// refused, which is the only error. That walk keeps to a budget, so of a document that is ruled out the result may be
+/// false.
 pub fn refutes(
     alloc: Global,
     history: &History,
     evidence: &Refuted,
     conflicts: Conflicts,
 ) -> Result<bool, NoMemory>
-    // The result is true exactly if the evidence holds in the history.
-    ensures holds { IfOk result (λ holds. IsTrue holds ↔ Holds conflicts history.now evidence.now) }
+    // If the result is true, the evidence holds in the history.
+    ensures holds { IfOk result (λ holds. IsTrue holds → Holds conflicts history.now evidence.now) }
+    // Of evidence of one or two calls it is true exactly if the evidence holds.
+    ensures exact { IsOfCalls evidence.now → IfOk result (λ holds. IsTrue holds ↔ Holds conflicts history.now evidence.now) }
     // Of evidence of one or two calls there is no error.
     ensures succeeds { IsOfCalls evidence.now → IsOk result }
 {

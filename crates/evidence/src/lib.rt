@@ -7,9 +7,11 @@
 //! ```
 #![tactic(auto)]
 
+mod allowance;
 mod answered_call;
 mod certainty;
 mod holding;
+mod known_pairs;
 pub mod laws;
 mod refuted;
 mod ruled_out_calls;
@@ -17,8 +19,9 @@ mod ruling_out;
 mod search;
 
 pub use certainty::Certainty;
+pub use deciding::Attempts;
 pub use holding::refutes;
 pub use refuted::Refuted;
-pub use ruled_out_calls::is_document_ruled_out;
+pub use ruled_out_calls::{Rulings, is_document_ruled_out};
 pub use ruling_out::RulingOut;
 pub use search::{find_evidence, rule_out};

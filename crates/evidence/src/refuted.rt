@@ -16,7 +16,6 @@ pub enum Refuted {
     /// lesser pair.
     StaleSwap(u64, u64),
     /// A call at which its document is provably not linearizable (ruled out): whatever became of the calls
-    /// without a reply, the calls that were answered up to this one have no positions among the pairs that
-    /// replies show.
+    /// without a reply, after the reply to this one nothing is left that the document may be.
     RuledOut(u64),
 }

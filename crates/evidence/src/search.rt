@@ -7,14 +7,15 @@ mod pairs_taken_twice;
 mod stale_reads;
 mod unwritten_reads;
 
-ghost use Rattle.std.specs.Prelude.{◌≡◌, None as Nothing, IfOk, IfSome};
-ghost use Rattle.evidence.specs.Evidence.{AreDocuments, Holds, IsOfCalls, IsReported, IsWithoutRuledOut, ListsRuledOut};
+ghost use Rattle.std.specs.Prelude.{IfOk, IfSome};
+ghost use Rattle.evidence.specs.Evidence.{AreDocuments, Holds, IsOfCalls, IsReported};
 
 use crate::holding::refutes;
 use crate::refuted::Refuted;
 use crate::ruled_out_calls::least_ruled_out;
 use crate::ruling_out::RulingOut;
 use calls_with_pairs::CallsWithPairs;
+use deciding::Attempts;
 use doc_register::Conflicts;
 use events::History;
 use lost_updates::least_stale_swap;
@@ -81,29 +82,26 @@ pub fn find_evidence(
     confirm(alloc, history, swap, conflicts)
 }
 
-/// Returns the evidence that a document of the history is provably not linearizable, in this reading of
-/// conflicts: the least call at which one is. Returns `None` if no document is. Only the documents of these
-/// numbers are checked.
+/// Returns evidence that a document of the history is provably not linearizable, in this reading of
+/// conflicts, if its lost writes were performed so often: the least call at which one is found to be. Only the
+/// documents of these numbers are checked. `None` says nothing.
 pub fn rule_out(
     alloc: Global,
     history: &History,
     conflicts: Conflicts,
+    attempts: Attempts,
     docs: &[usize],
 ) -> Result<Option<Refuted>, NoMemory>
     // The numbers are those of documents of the history.
-    requires within { AreDocuments history.now docs.now }
-    // Each document that is provably not linearizable is among them.
-    requires listed { ListsRuledOut conflicts history.now docs.now }
+    requires { AreDocuments history.now docs.now }
     // Evidence that is found holds in the history.
     ensures holds { IfOk result (λ found. IfSome found (Holds conflicts history.now)) }
-    // No document is provably not linearizable at a call with a lesser number.
-    ensures least { IfOk result (λ found. IfSome found (IsReported RulingOut.On conflicts history.now)) }
-    // If none is found, no document of the history is provably not linearizable.
-    ensures none { IfOk result (λ found. found ≡ Nothing → IsWithoutRuledOut conflicts history.now) }
+    // It may be reported if that a document is ruled out is asked for.
+    ensures reportable { IfOk result (λ found. IfSome found (IsReported RulingOut.On)) }
 {
     // Calling `len` makes it known from here on that this is a history.
     let _ = history.len();
-    match least_ruled_out(alloc, history, conflicts, docs)? {
+    match least_ruled_out(alloc, history, conflicts, attempts, docs)? {
         Some(call) => Ok(Some(Refuted::RuledOut(call))),
         None => Ok(None),
     }

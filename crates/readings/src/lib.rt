@@ -22,6 +22,6 @@ mod way_back;
 pub use history::{Failed, TextRead, TextRules, Voids, Writes};
 pub use judged::{is_repeatable_write, judged_history};
 pub use read_history::{ReadHistory, text_history};
-pub use reading::{ConflictReading, Gets, Reading};
+pub use reading::{ConflictReading, Gets, Reading, attempts_of};
 pub use unexplained::{UnexplainedGet, unexplained_get};
 pub use way_back::WayBack;

@@ -2,6 +2,7 @@ ghost use Rattle.std.specs.Prelude.{◌≡◌};
 ghost use Rattle.readings.specs.Reading.{conflicts_as, leaves_events, opensearch_reading, rules_of, strict_reading};
 
 use doc_register::Conflicts;
+use evidence::Attempts;
 use history::{Failed, TextRules, Writes};
 
 /// What a reply to a get shows.
@@ -36,6 +37,16 @@ pub struct Reading {
     pub writes: Writes,
     /// What lost lines say that are marked as void.
     pub failed: Failed,
+}
+
+/// Returns how often a lost write may have been performed, as the search for documents that are ruled out takes it. If a
+/// store may perform a write twice, it may do so a third time, though the reading doesn't try that: no document is ruled
+/// out for it.
+pub fn attempts_of(writes: Writes) -> Attempts {
+    match writes {
+        Writes::Once => Attempts::Once,
+        Writes::Repeated => Attempts::Any,
+    }
 }
 
 impl Reading {

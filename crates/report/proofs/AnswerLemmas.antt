@@ -18,12 +18,11 @@ use Rattle.readings.specs.Laws.{EvidenceRefutesReadings}
 use Rattle.readings.specs.Reading.{conflicts_as, rules_of}
 use Rattle.readings.specs.WayBack.{evidence_in_text}
 use Rattle.readings.specs.declared.reading.Reading.{Reading}
-use Rattle.evidence.specs.Evidence.{EvidenceRefutes, Holds, IsOfCalls, IsReported, IsWithoutRuledOut}
+use Rattle.evidence.specs.Evidence.{EvidenceRefutes, Holds, IsOfCalls, IsReported}
 use Rattle.evidence.specs.declared.refuted.Refuted.{Refuted as Evidence}
 use Rattle.evidence.specs.declared.refuted.Refuted.TheVariants as evidence
 use Rattle.evidence.specs.declared.certainty.Certainty.{Certainty}
 use Rattle.evidence.specs.declared.ruling_out.RulingOut.{RulingOut}
-use Rattle.evidence.specs.declared.ruling_out.RulingOut.TheVariants.{On}
 use Rattle.compose.specs.Certainties.{Says as SaysOf}
 use Rattle.compose.specs.Counts.{calls_counted, calls_of, is_counted}
 use Rattle.compose.specs.Laws.{IsComplete, places_numbered}
@@ -126,14 +125,14 @@ refusal_answers ruling reading (Some bytes) fault is = (fault, refl, is)
 -- ---- what was found
 
 -- evidence of calls may always be reported
-pub calls_reportable : (ruling : RulingOut) (conflicts : Conflicts) (H : List Event) (found : Option Evidence) → IfSome found IsOfCalls → IfSome found (IsReported ruling conflicts H)
-calls_reportable ruling conflicts H None calls = tt
-calls_reportable ruling conflicts H (Some (evidence.PairTwice a b)) calls = tt
-calls_reportable ruling conflicts H (Some (evidence.NoWriter g)) calls = tt
-calls_reportable ruling conflicts H (Some (evidence.StaleGet g w)) calls = tt
-calls_reportable ruling conflicts H (Some (evidence.MissedWrite g w)) calls = tt
-calls_reportable ruling conflicts H (Some (evidence.StaleSwap a b)) calls = tt
-calls_reportable ruling conflicts H (Some (evidence.RuledOut n)) calls = absurd calls
+pub calls_reportable : (ruling : RulingOut) (found : Option Evidence) → IfSome found IsOfCalls → IfSome found (IsReported ruling)
+calls_reportable ruling None calls = tt
+calls_reportable ruling (Some (evidence.PairTwice a b)) calls = tt
+calls_reportable ruling (Some (evidence.NoWriter g)) calls = tt
+calls_reportable ruling (Some (evidence.StaleGet g w)) calls = tt
+calls_reportable ruling (Some (evidence.MissedWrite g w)) calls = tt
+calls_reportable ruling (Some (evidence.StaleSwap a b)) calls = tt
+calls_reportable ruling (Some (evidence.RuledOut n)) calls = absurd calls
 
 -- ---- reports on what was read
 
@@ -229,7 +228,7 @@ judged_refutes reading read own law history holds explained = law (conflicts_as 
 
 pub evidence_report : (ruling : RulingOut) (reading : Reading) (read : TextRead) (own : Offence) (e : Evidence) → EvidenceRefutes → IsHistory (judged reading read)
     → HasNoOrderFound (conflicts_as reading.conflicts) (judged reading read) → IsOffence (conflicts_as reading.conflicts) (judged reading read) own
-    → Holds (conflicts_as reading.conflicts) (judged reading read) e → IsReported ruling (conflicts_as reading.conflicts) (judged reading read) e
+    → Holds (conflicts_as reading.conflicts) (judged reading read) e → IsReported ruling e
     → IsReportOn ruling reading read (reported.Refuted (evidence_in_text reading.writes read.history e) (offence_in_text reading.writes read.history own)) (Some true)
 evidence_report ruling reading read own e law history none offence holds reportable = record {
   says = (
@@ -248,18 +247,16 @@ evidence_report ruling reading read own e law history none offence holds reporta
 
 pub no_report : (ruling : RulingOut) (reading : Reading) (read : TextRead) (own : Offence) (proved : Bool) → HasNoOrderFound (conflicts_as reading.conflicts) (judged reading read)
     → IsOffence (conflicts_as reading.conflicts) (judged reading read) own → HasGetsExplained reading read
-    → (ruling ≡ On → IsWithoutRuledOut (conflicts_as reading.conflicts) (judged reading read))
     → (IsTrue proved ↔ IsComplete (conflicts_as reading.conflicts) (judged reading read))
     → (IsTrue proved → ¬ IsLinearizable (conflicts_as reading.conflicts) (judged reading read))
     → IsReportOn ruling reading read (reported.No (offence_in_text reading.writes read.history own)) (Some proved)
-no_report ruling reading read own proved none offence gets without complete no_order = record {
+no_report ruling reading read own proved none offence gets complete no_order = record {
   says = (
     offence_in_text reading.writes read.history own,
     refl,
     record {
       unexplained = unexplained reading read own none offence;
       gets = gets;
-      none = without;
     },
   );
   proof = (proved, refl, complete, λ yes explained. no_order yes explained.linearizable);

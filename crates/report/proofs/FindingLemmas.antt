@@ -5,9 +5,8 @@ use Rattle.std.specs.declared.alloc.AllocError.{AllocError}
 use Rattle.doc_register.specs.declared.state.Conflicts.{Conflicts}
 use Rattle.events.specs.Events.{documents_of}
 use Rattle.events.specs.declared.event.Event.{Event}
-use Rattle.evidence.specs.Evidence.{Holds, IsReported, IsWithoutRuledOut}
+use Rattle.evidence.specs.Evidence.{Holds, IsReported}
 use Rattle.evidence.specs.declared.ruling_out.RulingOut.{RulingOut}
-use Rattle.evidence.specs.declared.ruling_out.RulingOut.TheVariants.{On}
 use Rattle.compose.specs.Checked.{IsVerdictOn}
 use Rattle.compose.specs.Offences.{IsOffence}
 use Rattle.compose.specs.Verdicts.{Proven, Unproven}
@@ -43,11 +42,6 @@ gets_found reading read kept (Err e) same any is = tt
 gets_found reading read kept (Ok None) same any is = λ _. subst (λ r. AreGetsExplained reading (heeded reading r)) same is
 gets_found reading read kept (Ok (Some get)) same any is = record { any = any; unexplained = subst (λ r. IsUnexplainedGet reading (heeded reading r) get.evidence) same is }
 
--- what holds if nothing was found holds then under a further condition
-pub if_none_found : {A : Type 0} (P Q : Type 0) (found : Result (Option A) AllocError) → IfOk found (λ it. it ≡ None → P) → IfOk found (λ it. it ≡ None → Q → P)
-if_none_found P Q (Err e) is = tt
-if_none_found P Q (Ok it) is = λ none _. is none
-
 -- what is kept of a text has its void calls
 pub lost_kept : (reading : Reading) (read : TextRead) (events : List Event) (text : Option TextRead) → AreLost read.history read.voids → IsKept reading read events text
     → IfSome text (λ t. AreLost t.history t.voids)
@@ -71,20 +65,18 @@ found_explained ruling reading read proof get text verdict kept gets = record {
 pub found_unexplained : (ruling : RulingOut) (reading : Reading) (read : TextRead) (case : Unproven) (failing : Failing) (get : Option UnexplainedGet) (text : Option TextRead)
     → IsVerdictOn (conflicts_as reading.conflicts) (judged reading read) (No case) → IsKept reading read (judged reading read) text
     → IsOffence case.conflicts case.events failing.offence
-    → IfSome failing.evidence (Holds case.conflicts case.events) → IfSome failing.evidence (IsReported ruling case.conflicts case.events)
+    → IfSome failing.evidence (Holds case.conflicts case.events) → IfSome failing.evidence (IsReported ruling)
     → (failing.evidence ≡ None → IsFoundOfGets reading read get)
-    → (failing.evidence ≡ None → get ≡ None → ruling ≡ On → IsWithoutRuledOut case.conflicts case.events)
     → IsFoundOf ruling reading read (record { finding = Unexplained case failing; get = get; text = text })
-found_unexplained ruling reading read case failing get text verdict kept offence holds reportable gets none = record {
+found_unexplained ruling reading read case failing get text verdict kept offence holds reportable gets = record {
   events = verdict.0;
   conflicts = verdict.1;
   kept = subst (λ H. IsKept reading read H text) (sym verdict.0) kept;
   outcome = (
     subst (λ c. IsOffence c case.events failing.offence) verdict.1 offence,
     subst (λ c. IfSome failing.evidence (Holds c case.events)) verdict.1 holds,
-    subst (λ c. IfSome failing.evidence (IsReported ruling c case.events)) verdict.1 reportable,
+    reportable,
     gets,
-    subst (λ c. failing.evidence ≡ None → get ≡ None → ruling ≡ On → IsWithoutRuledOut c case.events) verdict.1 none,
   );
 }
 

@@ -5,7 +5,7 @@ use Rattle.doc_register.specs.declared.state.Conflicts.{Conflicts}
 use Rattle.events.specs.declared.event.Event.{Event}
 use Rattle.events.specs.Events.{IsHistory}
 use Rattle.events.specs.Order.{IsLinearizable}
-use Rattle.evidence.specs.Evidence.{EvidenceRefutes, Holds, IsReported, IsWithoutRuledOut}
+use Rattle.evidence.specs.Evidence.{EvidenceRefutes, Holds, IsReported}
 use Rattle.evidence.specs.declared.refuted.Refuted.{Refuted as Evidence}
 use Rattle.evidence.specs.declared.ruling_out.RulingOut.{RulingOut}
 use Rattle.evidence.specs.declared.ruling_out.RulingOut.TheVariants.{On}
@@ -60,9 +60,8 @@ record IsWithout (ruling : RulingOut) (reading : Reading) (read : TextRead) (fai
   none_found : HasNoOrderFound (conflicts_as reading.conflicts) (judged reading read)
   offence : IsOffence (conflicts_as reading.conflicts) (judged reading read) failing.offence
   holds : IfSome failing.evidence (Holds (conflicts_as reading.conflicts) (judged reading read))
-  reportable : IfSome failing.evidence (IsReported ruling (conflicts_as reading.conflicts) (judged reading read))
+  reportable : IfSome failing.evidence (IsReported ruling)
   gets : failing.evidence ≡ None → IsFoundOfGets reading read get
-  none : failing.evidence ≡ None → get ≡ None → ruling ≡ On → IsWithoutRuledOut (conflicts_as reading.conflicts) (judged reading read)
 
 is_without : (ruling : RulingOut) (reading : Reading) (read : TextRead) (found : TextFinding) (case : Unproven) (failing : Failing)
     → found.finding ≡ Unexplained case failing → IsHistory case.events → HasNoOrderFound case.conflicts case.events → IsFoundOf ruling reading read found
@@ -77,9 +76,8 @@ is_without ruling reading read found case failing is history none of =
       none_found = subst (λ k. HasNoOrderFound k (judged reading read)) way (subst (HasNoOrderFound case.conflicts) same none);
       offence = subst (λ H. IsOffence c H failing.offence) same out.0;
       holds = subst (λ H. IfSome failing.evidence (Holds c H)) same out.1;
-      reportable = subst (λ H. IfSome failing.evidence (IsReported ruling c H)) same out.2;
+      reportable = out.2;
       gets = out.3;
-      none = subst (λ H. failing.evidence ≡ None → found.get ≡ None → ruling ≡ On → IsWithoutRuledOut c H) same out.4;
     }
 
 -- the offence by the text
@@ -97,7 +95,7 @@ found_evidence ruling reading read found case failing text o e said law is histo
     subst (λ s. IsReportOn ruling reading read (reported.Refuted s o) (Some true)) (sym (said_is ∙ ap (λ H. evidence_in_text reading.writes H e) own))
     (subst (λ x. IsReportOn ruling reading read (reported.Refuted (evidence_in_text reading.writes read.history e) x) (Some true)) (own_offence reading read text failing.offence o own o_is)
     (evidence_report ruling reading read failing.offence e law w.history w.none_found w.offence (subst (λ f. IfSome f (Holds c (judged reading read))) e_is w.holds)
-    (subst (λ f. IfSome f (IsReported ruling c (judged reading read))) e_is w.reportable)))
+    (subst (λ f. IfSome f (IsReported ruling)) e_is w.reportable)))
 
 pub found_get_without : (ruling : RulingOut) (reading : Reading) (read : TextRead) (found : TextFinding) (case : Unproven) (failing : Failing) (text : List Event) (o : Offence) (get : UnexplainedGet)
     → EvidenceRefutesReadings → found.finding ≡ Unexplained case failing → IsHistory case.events → HasNoOrderFound case.conflicts case.events → text ≡ read.history
@@ -118,6 +116,6 @@ found_no ruling reading read found case failing text o proved is history none ow
     let same = subst (λ f. events_of f ≡ judged reading read) is of.events in
     let way = subst (λ f. conflicts_of f ≡ conflicts_as reading.conflicts) is of.conflicts in
     subst (λ x. IsReportOn ruling reading read (reported.No x) (Some proved)) (own_offence reading read text failing.offence o own o_is)
-    (no_report ruling reading read failing.offence proved w.none_found w.offence (subst (IsFoundOfGets reading read) no_get (w.gets e_is)) (w.none e_is no_get)
+    (no_report ruling reading read failing.offence proved w.none_found w.offence (subst (IsFoundOfGets reading read) no_get (w.gets e_is))
     (subst (λ k. IsTrue proved ↔ IsComplete k (judged reading read)) way (subst (λ H. IsTrue proved ↔ IsComplete case.conflicts H) same complete))
     (subst (λ k. IsTrue proved → ¬ IsLinearizable k (judged reading read)) way (subst (λ H. IsTrue proved → ¬ IsLinearizable case.conflicts H) same no_order)))

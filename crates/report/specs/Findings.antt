@@ -2,9 +2,8 @@
 use Rattle.std.specs.Prelude.{◌≡◌, List, Option, Some, None, IfSome}
 use Rattle.doc_register.specs.declared.state.Conflicts.{Conflicts}
 use Rattle.events.specs.declared.event.Event.{Event}
-use Rattle.evidence.specs.Evidence.{Holds, IsReported, IsWithoutRuledOut}
+use Rattle.evidence.specs.Evidence.{Holds, IsReported}
 use Rattle.evidence.specs.declared.ruling_out.RulingOut.{RulingOut}
-use Rattle.evidence.specs.declared.ruling_out.RulingOut.TheVariants.{On}
 use Rattle.compose.specs.Offences.{IsOffence}
 use Rattle.compose.specs.declared.finding.Failing.{Failing}
 use Rattle.compose.specs.declared.finding.Finding.{Finding}
@@ -32,15 +31,14 @@ abbrev pub IsFoundOfGets : Reading → TextRead → Option UnexplainedGet → Ty
 IsFoundOfGets reading read None = HasGetsExplained reading read
 IsFoundOfGets reading read (Some get) = IsOfGet reading read get.evidence
 
--- What was found if there is no order: evidence that holds and may be reported; or nothing of the kind, and then no
--- document is ruled out, if that was asked for, unless nothing explains a get.
+-- What was found if there is no order: evidence that holds and may be reported; or nothing of the kind, and then what
+-- was found of the gets.
 abbrev pub IsFoundWithout : RulingOut → Reading → TextRead → List Event → Failing → Option UnexplainedGet → Type 0
 IsFoundWithout ruling reading read events failing get =
     IsOffence (conflicts_as reading.conflicts) events failing.offence
     × IfSome failing.evidence (Holds (conflicts_as reading.conflicts) events)
-    × IfSome failing.evidence (IsReported ruling (conflicts_as reading.conflicts) events)
+    × IfSome failing.evidence (IsReported ruling)
     × (failing.evidence ≡ None → IsFoundOfGets reading read get)
-    × (failing.evidence ≡ None → get ≡ None → ruling ≡ On → IsWithoutRuledOut (conflicts_as reading.conflicts) events)
 
 -- what was found, if it is an order, and if it is none
 abbrev pub IsFoundBy : RulingOut → Reading → TextRead → Finding → Option UnexplainedGet → Type 0

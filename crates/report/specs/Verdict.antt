@@ -23,11 +23,10 @@ use Rattle.compose.specs.Laws.{places_numbered}
 use Rattle.compose.specs.declared.counts.CallNumbers.{CallNumbers}
 use Rattle.compose.specs.declared.counts.CallNumbers.TheVariants.{All, Even}
 use Rattle.covers.specs.Covers.{AreCover}
-use Rattle.evidence.specs.Evidence.{Holds, IsReported, IsWithoutRuledOut}
+use Rattle.evidence.specs.Evidence.{Holds, IsReported}
 use Rattle.evidence.specs.declared.refuted.Refuted.{Refuted as Evidence}
 use Rattle.evidence.specs.declared.refuted.Refuted.TheVariants as evidence
 use Rattle.evidence.specs.declared.ruling_out.RulingOut.{RulingOut}
-use Rattle.evidence.specs.declared.ruling_out.RulingOut.TheVariants.{On}
 use Rattle.compose.specs.Verdicts.{HasNoOrderFound}
 use Rattle.compose.specs.VerifyFaults.{IsFirstVerifyFault}
 use Rattle.compose.specs.declared.verify_fault.VerifyFault.{VerifyFault}
@@ -134,16 +133,13 @@ pub record IsUnexplained (reading : Reading) (read : TextRead) (o : Offence) : T
   -- by the text's calls and events it is the offence
   pub in_text : o ≡ offence_in_text reading.writes read.history own
 
--- The text is unexplained; each get that is judged by itself is explained; and if documents were checked for being ruled
--- out, none is.
+-- The text is unexplained, and each get that is judged by itself is explained.
 -- Source: profile.
-pub record IsUndecided (ruling : RulingOut) (reading : Reading) (read : TextRead) (o : Offence) : Type 0 where
+pub record IsUndecided (reading : Reading) (read : TextRead) (o : Offence) : Type 0 where
   -- no order was found, with this offence
   pub unexplained : IsUnexplained reading read o
   -- each get is explained by itself, if any copy may answer it
   pub gets : HasGetsExplained reading read
-  -- if documents were checked for being ruled out, none of what is judged is (`IsWithoutRuledOut`)
-  pub none : ruling ≡ On → IsWithoutRuledOut (conflicts_as reading.conflicts) (judged reading read)
 
 -- ---- refuted
 
@@ -153,9 +149,8 @@ pub record IsOfJudged (ruling : RulingOut) (reading : Reading) (read : TextRead)
   pub own : Evidence
   -- this holds in what is judged (`Holds`)
   pub holds : Holds (conflicts_as reading.conflicts) (judged reading read) own
-  -- it may be reported (`IsReported`): that a document is ruled out only if that was asked for, and by the least call at
-  -- which one is
-  pub reportable : IsReported ruling (conflicts_as reading.conflicts) (judged reading read) own
+  -- it may be reported (`IsReported`): that a document is ruled out only if that was asked for
+  pub reportable : IsReported ruling own
   -- with the numbers of the text's calls it is the evidence
   pub in_text : e ≡ evidence_in_text reading.writes read.history own
 
@@ -219,7 +214,7 @@ IsRefused reading input line =
 -- Source: profile.
 abbrev pub Says : RulingOut → Reading → TextRead → Status → List ℕ → Type 0
 Says ruling reading read Yes line = (counts : TextCounts) × (line ≡ yes_line counts) × IsExplainedWith reading read counts
-Says ruling reading read No line = (o : Offence) × (line ≡ no_line o) × IsUndecided ruling reading read o
+Says ruling reading read No line = (o : Offence) × (line ≡ no_line o) × IsUndecided reading read o
 Says ruling reading read Refuted line = (e : Evidence) × (o : Offence) × (line ≡ refuted_line e o) × IsRefutedBy ruling reading read e o
 Says ruling reading read Refused line = ⊥
 

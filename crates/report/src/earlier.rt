@@ -8,6 +8,7 @@ ghost use Rattle.report.specs.aids.Earlier.{IsEarlier};
 use crate::finding::evidence_against;
 use compose::{Case, Certainty, Failing, RulingOut, Verdict, certainty_of, check_alone};
 use events::laws::prefixes;
+use readings::{Writes, attempts_of};
 use std::alloc::{AllocError, Global};
 use version_pair::NoMemory;
 
@@ -36,18 +37,19 @@ fn with_reasons(
     case: Case,
     failing: &Failing,
     ruling_out: RulingOut,
+    writes: Writes,
 ) -> Result<Option<Earlier>, NoMemory>
     ensures case { IfOk result (λ found. IfSome found (λ earlier. earlier.case ≡ case)) }
     ensures says { IfOk result (λ found. IfSome found (λ earlier.
         Says case.conflicts case.events earlier.failing.evidence failing.now.offence.call earlier.certainty)) }
     ensures proved { IfOk result (λ found. IfSome found (λ _. ¬ IsLinearizable case.conflicts case.events)) }
 {
-    let evidence = evidence_against(alloc, &case, ruling_out)?;
+    let evidence = evidence_against(alloc, &case, ruling_out, writes)?;
     let failing = Failing {
         evidence,
         offence: failing.offence,
     };
-    let certainty = certainty_of(alloc, &case, &failing)?;
+    let certainty = certainty_of(alloc, &case, &failing, attempts_of(writes))?;
     if !has_reasons(certainty) {
         return Ok(None);
     }
@@ -65,6 +67,7 @@ pub fn earlier_reasons(
     case: &Case,
     failing: &Failing,
     certainty: Certainty,
+    writes: Writes,
 ) -> Result<Option<Earlier>, NoMemory>
     ensures { IfOk result (λ found. IfSome found (IsEarlier case.now failing.now.offence)) }
 {
@@ -82,7 +85,7 @@ pub fn earlier_reasons(
         None => RulingOut::Off,
     };
     match check_alone(alloc, prefix, case.conflicts()) {
-        Ok(Verdict::No(earlier)) => with_reasons(alloc, earlier, failing, ruling_out),
+        Ok(Verdict::No(earlier)) => with_reasons(alloc, earlier, failing, ruling_out, writes),
         Ok(Verdict::Yes(_)) => Ok(None),
         Err(_) => Err(AllocError),
     }

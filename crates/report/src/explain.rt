@@ -13,11 +13,12 @@ use crate::reported::{counts_of, get_offence};
 use crate::searches::Searches;
 use crate::text_finding::TextFinding;
 use compose::{
-    Case, Certainty, Failing, Finding, Offence, Proof, Refuted, RulingOut, certainty_of, rule_out,
+    Attempts, Case, Certainty, Failing, Finding, Offence, Proof, Refuted, RulingOut, certainty_of,
+    rule_out,
 };
 use doc_register::Conflicts;
 use events::History;
-use readings::{Reading, UnexplainedGet, WayBack, Writes};
+use readings::{Reading, UnexplainedGet, WayBack, Writes, attempts_of};
 use result_lines::Reported;
 use std::alloc::Global;
 use story::{
@@ -89,11 +90,12 @@ fn reasons_before(
     failing: &Failing,
     certainty: Certainty,
     subjects: &Subjects<'_>,
+    writes: Writes,
 ) -> Result<Option<Earlier>, NoMemory>
     ensures { IfOk result (λ found. IfSome found (IsEarlier case.now failing.now.offence)) }
 {
     if subjects.cite_later() {
-        earlier_reasons(alloc, case, failing, certainty)
+        earlier_reasons(alloc, case, failing, certainty, writes)
     } else {
         Ok(None)
     }
@@ -206,7 +208,8 @@ fn story_of_case(
 ) -> Result<Story, NoMemory>
     requires { IfSome failing.now.evidence (Holds case.now.conflicts case.now.events) }
 {
-    let certainty = certainty_of(alloc, case, failing)?;
+    let writes = sources.reading.writes;
+    let certainty = certainty_of(alloc, case, failing, attempts_of(writes))?;
     let none = None;
     let whole = unexplained_of(case, failing, certainty, &none);
     let account = account_of(found, whole, found.history(), sources.reading);
@@ -214,7 +217,7 @@ fn story_of_case(
     if found.get.is_some() {
         return sources.story(alloc, &subjects);
     }
-    let earlier = reasons_before(alloc, case, failing, certainty, &subjects)?;
+    let earlier = reasons_before(alloc, case, failing, certainty, &subjects, writes)?;
     if earlier.is_none() {
         return sources.story(alloc, &subjects);
     }
@@ -289,7 +292,7 @@ fn line_ruled_out(
     let reported = found.answer(Reading::strict()).reported;
     let reported = match (&found.finding, reported, ruling_out) {
         (Finding::Unexplained(case, _), Reported::No(offence), RulingOut::Off) => {
-            match rule_out(alloc, case)? {
+            match rule_out(alloc, case, Attempts::Once)? {
                 Some(evidence) => Reported::Refuted(evidence, offence),
                 None => reported,
             }

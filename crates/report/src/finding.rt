@@ -2,7 +2,7 @@
 
 ghost use Rattle.std.specs.Prelude.{◌≡◌, ◌≢◌, ◌≤◌, None as Nothing, IfErr, IfOk, IfSome, List};
 ghost use Rattle.compose.specs.Checked.{IsVerdictOn};
-ghost use Rattle.evidence.specs.Evidence.{Holds, IsReported, IsWithoutRuledOut};
+ghost use Rattle.evidence.specs.Evidence.{Holds, IsReported};
 ghost use Rattle.events.specs.Refusal.{most_events};
 ghost use Rattle.events.specs.declared.event.Event.{Event as AnyEvent};
 ghost use Rattle.history.specs.ByRules.{room_taken};
@@ -27,7 +27,7 @@ use doc_register::Conflicts;
 use events::History;
 use history::TextRead;
 use readings::laws::histories_stay;
-use readings::{Gets, ReadHistory, Reading, UnexplainedGet, unexplained_get};
+use readings::{Gets, ReadHistory, Reading, UnexplainedGet, Writes, attempts_of, unexplained_get};
 use std::alloc::{AllocError, Global};
 use std::sync::Wait;
 use std::thread::Threads;
@@ -76,16 +76,19 @@ pub fn get_found(
     }
 }
 
-// Returns evidence that a document of the case's history is provably not linearizable, if that is asked for and one is.
-fn ruled_out(alloc: Global, case: &Case, ruling_out: RulingOut) -> Result<Option<Refuted>, NoMemory>
+// Returns evidence that a document of the case's history is provably not linearizable, if that is asked for and found.
+fn ruled_out(
+    alloc: Global,
+    case: &Case,
+    ruling_out: RulingOut,
+    writes: Writes,
+) -> Result<Option<Refuted>, NoMemory>
     ensures holds { IfOk result (λ found. IfSome found (Holds case.now.conflicts case.now.events)) }
-    ensures reportable { IfOk result (λ found. IfSome found (IsReported ruling_out case.now.conflicts case.now.events)) }
-    ensures none { IfOk result (λ found. found ≡ Nothing → ruling_out ≡ RulingOut.On
-        → IsWithoutRuledOut case.now.conflicts case.now.events) }
+    ensures reportable { IfOk result (λ found. IfSome found (IsReported ruling_out)) }
 {
     match ruling_out {
         RulingOut::Off => Ok(None),
-        RulingOut::On => rule_out(alloc, case),
+        RulingOut::On => rule_out(alloc, case, attempts_of(writes)),
     }
 }
 
@@ -95,15 +98,14 @@ pub fn evidence_against(
     alloc: Global,
     case: &Case,
     ruling_out: RulingOut,
+    writes: Writes,
 ) -> Result<Option<Refuted>, NoMemory>
     ensures holds { IfOk result (λ found. IfSome found (Holds case.now.conflicts case.now.events)) }
-    ensures reportable { IfOk result (λ found. IfSome found (IsReported ruling_out case.now.conflicts case.now.events)) }
-    ensures none { IfOk result (λ found. found ≡ Nothing → ruling_out ≡ RulingOut.On
-        → IsWithoutRuledOut case.now.conflicts case.now.events) }
+    ensures reportable { IfOk result (λ found. IfSome found (IsReported ruling_out)) }
 {
     match refute(alloc, case)? {
         Some(evidence) => Ok(Some(evidence)),
-        None => ruled_out(alloc, case, ruling_out),
+        None => ruled_out(alloc, case, ruling_out, writes),
     }
 }
 
@@ -115,7 +117,7 @@ struct Against {
 }
 
 // Returns a get that nothing explains, if there is one, and else evidence of a document that is ruled out, if that is
-// asked for and one is.
+// asked for and found.
 fn get_or_ruled_out(
     alloc: Global,
     case: &Case,
@@ -124,11 +126,9 @@ fn get_or_ruled_out(
 ) -> Result<Against, NoMemory>
     requires { IfSome text.now (λ t. AreLost t.history t.voids) }
     ensures holds { IfOk result (λ found. IfSome found.evidence (Holds case.now.conflicts case.now.events)) }
-    ensures reportable { IfOk result (λ found. IfSome found.evidence (IsReported options.ruling_out case.now.conflicts case.now.events)) }
+    ensures reportable { IfOk result (λ found. IfSome found.evidence (IsReported options.ruling_out)) }
     ensures gets { (read : TextOf) (events : List AnyEvent) → IsKept options.reading read events text.now
         → IfOk result (λ found. IsFoundOfGets options.reading read found.get) }
-    ensures none { IfOk result (λ found. found.evidence ≡ Nothing → found.get ≡ Nothing → options.ruling_out ≡ RulingOut.On
-        → IsWithoutRuledOut case.now.conflicts case.now.events) }
 {
     match get_found(alloc, text, options.reading)? {
         Some(get) => Ok(Against {
@@ -136,7 +136,7 @@ fn get_or_ruled_out(
             get: Some(get),
         }),
         None => Ok(Against {
-            evidence: ruled_out(alloc, case, options.ruling_out)?,
+            evidence: ruled_out(alloc, case, options.ruling_out, options.reading.writes)?,
             get: None,
         }),
     }
@@ -152,11 +152,9 @@ fn found_against(
 ) -> Result<Against, NoMemory>
     requires { IfSome text.now (λ t. AreLost t.history t.voids) }
     ensures holds { IfOk result (λ found. IfSome found.evidence (Holds case.now.conflicts case.now.events)) }
-    ensures reportable { IfOk result (λ found. IfSome found.evidence (IsReported options.ruling_out case.now.conflicts case.now.events)) }
+    ensures reportable { IfOk result (λ found. IfSome found.evidence (IsReported options.ruling_out)) }
     ensures gets { (read : TextOf) (events : List AnyEvent) → IsKept options.reading read events text.now
         → IfOk result (λ found. found.evidence ≡ Nothing → IsFoundOfGets options.reading read found.get) }
-    ensures none { IfOk result (λ found. found.evidence ≡ Nothing → found.get ≡ Nothing → options.ruling_out ≡ RulingOut.On
-        → IsWithoutRuledOut case.now.conflicts case.now.events) }
 {
     match refute(alloc, case)? {
         Some(evidence) => Ok(Against {

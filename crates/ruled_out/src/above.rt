@@ -1,11 +1,7 @@
-ghost use Rattle.ruled_out.specs.aids.Above.{IsLeastAbove};
-
 use version_pair::Pair;
 
 /// Returns the least pair above another one, or the least of all pairs; `None` if no pair is above it.
-pub fn least_above(lower: Option<Pair>) -> Option<Pair>
-    ensures { IsLeastAbove lower result }
-{
+pub fn least_above(lower: Option<Pair>) -> Option<Pair> {
     match lower {
         None => Pair::new(1, 0),
         Some(pair) => match Pair::new(pair.term(), pair.seq() + 1) {

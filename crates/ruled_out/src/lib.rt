@@ -1,19 +1,18 @@
-//! Documents that no order explains, whatever became of the calls without a reply: the call at which the
-//! answered calls of a document have no positions any more, and the laws of it.
+//! Why a document has no order, for people: the call that has no position any more if each answered call takes the
+//! earliest one that it may have by itself, the calls that brought the document so far, and why no write without a
+//! reply helps. A guess that words an explanation: no contract covers it, and no answer rests on it. Whether a
+//! document is provably not linearizable is decided by `deciding`.
 //!
 //! ```text
-//! let records = history.records(doc)?;
-//! // Option<u64>: the call at which the document is ruled out.
-//! let call = ruled_out_at(alloc, &records, Conflicts::Plain)?;
+//! let standings = Standings::of(alloc, &records, Conflicts::Plain)?;
+//! // Option<Stop>: the call without a position.
+//! let stop = standings.stop();
 //! ```
 #![tactic(auto)]
 
 mod above;
 mod cause;
-mod document;
 mod known;
-pub mod laws;
-mod positions;
 mod possible;
 mod reported;
 mod stage;
@@ -25,7 +24,6 @@ mod walk;
 mod writers;
 
 pub use cause::{Cause, Unmet};
-pub use document::ruled_out_at;
 pub use stage::{Raise, Stage, Stop};
 pub use standings::Standings;
 pub use unhelpful::Unhelpful;

@@ -1,9 +1,3 @@
-ghost use Rattle.std.specs.Prelude.{◌≤◌, ◌⊎◌, ◌↔◌, ℕ, None as Nothing, Some as Just, OnOk, List};
-ghost use Rattle.events.specs.declared.record.Rec.{Rec as Record};
-ghost use Rattle.ruled_out.specs.aids.Rooms.{IsAmong};
-ghost use Rattle.ruled_out.specs.aids.Sets.{IsLeastFrom, IsIn, IsWith, IsWithSome};
-
-use crate::positions::{first_from, insert_position};
 use crate::versions::Versions;
 use std::alloc::Global;
 use std::collections::BTreeSet;
@@ -18,13 +12,8 @@ pub struct Possible {
 }
 
 impl Possible {
-    ghost use Rattle.ruled_out.specs.aids.Offers.{KeepsRooms, MakesOffer};
-
     /// Returns an empty set of positions.
-    pub fn new(alloc: Global) -> Possible
-        ensures rooms { (records : List Record) → KeepsRooms records result }
-        ensures none { (n : ℕ) → ¬ IsIn result.positions n }
-    {
+    pub fn new(alloc: Global) -> Possible {
         Possible {
             positions: BTreeSet::new(alloc),
             anywhere: None,
@@ -32,18 +21,13 @@ impl Possible {
     }
 
     /// Adds a position.
-    pub fn insert(&mut self, n: usize) -> Result<(), NoMemory>
-        ensures rooms { OnOk result ((records : List Record) → KeepsRooms records self.old → KeepsRooms records self.new) }
-        ensures added { OnOk result (IsWith self.old.positions self.new.positions n) }
-    {
-        insert_position(&mut self.positions, n)
+    pub fn insert(&mut self, n: usize) -> Result<(), NoMemory> {
+        self.positions.insert(n)?;
+        Ok(())
     }
 
     /// Adds the position, if there is one.
-    pub fn insert_some(&mut self, found: Option<usize>) -> Result<(), NoMemory>
-        ensures rooms { OnOk result ((records : List Record) → KeepsRooms records self.old → KeepsRooms records self.new) }
-        ensures added { OnOk result (IsWithSome self.old.positions self.new.positions found) }
-    {
+    pub fn insert_some(&mut self, found: Option<usize>) -> Result<(), NoMemory> {
         if let Some(n) = found {
             self.insert(n)?;
         }
@@ -51,29 +35,22 @@ impl Possible {
     }
 
     /// Returns the least position that is not below `least`.
-    pub fn first_from(&self, least: usize) -> Option<usize>
-        ensures { IsLeastFrom (IsIn self.now.positions) least result }
-    {
-        first_from(&self.positions, least)
+    pub fn first_from(&self, least: usize) -> Option<usize> {
+        self.positions.range(least..).next().copied()
     }
 
     // Adds the positions with room from the floor on.
-    fn insert_rooms(&mut self, rooms: &[usize], floor: usize) -> Result<(), NoMemory>
-        ensures { OnOk result ((n : ℕ) → IsIn self.new.positions n
-            ↔ (((floor ≤ n) × IsAmong rooms.now n) ⊎ IsIn self.old.positions n)) }
-    {
+    fn insert_rooms(&mut self, rooms: &[usize], floor: usize) -> Result<(), NoMemory> {
         for n in rooms {
             if floor <= *n {
-                insert_position(&mut self.positions, *n)?;
+                self.insert(*n)?;
             }
         }
         Ok(())
     }
 
     // Adds the positions that a write without a condition may take.
-    fn offer_anywhere(&mut self, versions: &Versions, floor: usize) -> Result<(), NoMemory>
-        ensures { OnOk result (MakesOffer versions.now Nothing floor self.old self.new) }
-    {
+    fn offer_anywhere(&mut self, versions: &Versions, floor: usize) -> Result<(), NoMemory> {
         if let Some(from) = self.anywhere
             && from <= floor
         {
@@ -90,9 +67,7 @@ impl Possible {
         versions: &Versions,
         condition: Pair,
         floor: usize,
-    ) -> Result<(), NoMemory>
-        ensures { OnOk result (MakesOffer versions.now (Just condition) floor self.old self.new) }
-    {
+    ) -> Result<(), NoMemory> {
         let Some(n) = versions.known.gap_above(Some(condition)) else {
             return Ok(());
         };
@@ -108,9 +83,7 @@ impl Possible {
         versions: &Versions,
         condition: Option<Pair>,
         floor: usize,
-    ) -> Result<(), NoMemory>
-        ensures { OnOk result (MakesOffer versions.now condition floor self.old self.new) }
-    {
+    ) -> Result<(), NoMemory> {
         match condition {
             Some(pair) => self.offer_above(versions, pair, floor),
             None => self.offer_anywhere(versions, floor),

@@ -1,15 +1,10 @@
-ghost use Rattle.std.specs.Prelude.{◌≡◌, IfOk, length};
-ghost use Rattle.ruled_out.specs.Reported.{as_reported, reported, reported_of};
-
 use doc_register::{Conflicts, Reply};
 use events::Rec;
 use std::alloc::Global;
 use version_pair::NoMemory;
 
 // What was heard, except that a conflict under Maybe says nothing.
-fn reported_of(conflicts: Conflicts, heard: Option<(usize, Reply)>) -> Option<(usize, Reply)>
-    ensures { result ≡ reported_of conflicts heard }
-{
+fn reported_of(conflicts: Conflicts, heard: Option<(usize, Reply)>) -> Option<(usize, Reply)> {
     match (conflicts, heard) {
         (Conflicts::Maybe, Some((_, Reply::Conflict))) => None,
         (_, reported) => reported,
@@ -17,9 +12,7 @@ fn reported_of(conflicts: Conflicts, heard: Option<(usize, Reply)>) -> Option<(u
 }
 
 // The call with what is reported of it.
-fn as_reported(conflicts: Conflicts, call: Rec) -> Rec
-    ensures { result ≡ as_reported conflicts call }
-{
+fn as_reported(conflicts: Conflicts, call: Rec) -> Rec {
     Rec {
         heard: reported_of(conflicts, call.heard),
         ..call
@@ -32,10 +25,7 @@ pub fn reported_records(
     alloc: Global,
     records: &[Rec],
     conflicts: Conflicts,
-) -> Result<Vec<Rec>, NoMemory>
-    ensures reported { IfOk result (λ kept. kept.items ≡ reported conflicts records.now) }
-    ensures count { IfOk result (λ kept. length kept.items ≡ length records.now) }
-{
+) -> Result<Vec<Rec>, NoMemory> {
     let mut kept = Vec::with_capacity(alloc, records.len())?;
     for call in records {
         kept.push(as_reported(conflicts, *call))?;

@@ -1,5 +1,3 @@
-ghost use Rattle.std.specs.Prelude.{◌≡◌, ◌<◌, length};
-
 use crate::cause::cause_of;
 use crate::reported::reported_records;
 use crate::stage::{Raise, Stage, Stop, stage_of};
@@ -11,11 +9,10 @@ use std::alloc::Global;
 use version_pair::{NoMemory, Pair};
 use write_chain::answers_of;
 
-/// The answered calls of a document that brought it to its positions, and the one that has none, if there is one:
-/// what `ruled_out_at` goes by, kept for explanations to people.
+/// The answered calls of a document that brought it to its positions, and the one that has none, if there is one.
 ///
-/// No contract covers what is reported here. That a document is provably not linearizable is what the
-/// contract of `ruled_out_at` says.
+/// Each answered call is taken in response order, with the earliest position that it may have by itself. If one has
+/// none, the document has no order.
 #[derive(Drop)]
 pub struct Standings<'a> {
     /// The calls of the document.
@@ -25,7 +22,6 @@ pub struct Standings<'a> {
     // By rising position.
     raises: Vec<Raise>,
     stop: Option<Stop>,
-    ghost same: { length reported.items ≡ length records.now },
 }
 
 // Whether the call is a write that may have been performed with a pair that no reply reported.
@@ -84,7 +80,10 @@ impl<'a> Standings<'a> {
         for i in 0..answers.len() {
             let answer = answers[i];
             walk.pass_until(&reported, answer.reply_at)?;
-            stop = stand(&mut walk, answer.rec, records[answer.rec], &mut raises)?;
+            let Some(call) = records.get(answer.rec) else {
+                break;
+            };
+            stop = stand(&mut walk, answer.rec, *call, &mut raises)?;
             if stop.is_some() {
                 break;
             }
@@ -134,17 +133,15 @@ impl<'a> Standings<'a> {
     }
 
     /// Returns the reason why the write of this record does not give a position to the call that has none; `None` if
-    /// the record isn't of a write, or a reply reports it.
+    /// the record isn't of a write, or a reply reports it, or there is no record with the number.
     pub fn unhelpful(&self, stop: Stop, number: usize) -> Option<Unhelpful>
-        // There is a record with the number.
-        requires { number < length self.now.records.now }
+    // There is a record with the number.
     {
-        let call = &self.reported[number];
-        if is_unreported(call) {
-            let floor = self.walk.floor(number);
-            Some(unhelpful_for(self.walk.versions(), call, floor, stop))
-        } else {
-            None
-        }
+        let call = self
+            .reported
+            .get(number)
+            .filter(|call| is_unreported(call))?;
+        let floor = self.walk.floor(number);
+        Some(unhelpful_for(self.walk.versions(), call, floor, stop))
     }
 }

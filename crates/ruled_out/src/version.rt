@@ -1,5 +1,3 @@
-ghost use Rattle.std.specs.Prelude.{◌≡◌};
-
 use doc_register::Reply;
 
 /// The numbers that gets found with a pair.
@@ -32,12 +30,8 @@ pub const UNREPORTED: Version = Version {
 };
 
 impl FoundNumbers {
-    ghost use Rattle.ruled_out.specs.aids.Versions.{allows, number_with};
-
     /// Returns the numbers with one more.
-    pub fn with(self, k: u64) -> FoundNumbers
-        ensures { result ≡ number_with self k }
-    {
+    pub fn with(self, k: u64) -> FoundNumbers {
         match self {
             FoundNumbers::Unseen => FoundNumbers::One(k),
             FoundNumbers::One(known) => {
@@ -52,9 +46,7 @@ impl FoundNumbers {
     }
 
     /// Returns whether a write of this number may have taken the pair.
-    pub fn allows(self, k: u64) -> bool
-        ensures { result ≡ allows self k }
-    {
+    pub fn allows(self, k: u64) -> bool {
         match self {
             FoundNumbers::Unseen => true,
             FoundNumbers::One(known) => known == k,
@@ -64,12 +56,8 @@ impl FoundNumbers {
 }
 
 impl Version {
-    ghost use Rattle.ruled_out.specs.aids.Versions.{version_with};
-
     /// Returns what is known of the pair, with one more reply that shows it.
-    pub fn with(self, reply: Reply) -> Version
-        ensures { result ≡ version_with self reply }
-    {
+    pub fn with(self, reply: Reply) -> Version {
         match reply {
             Reply::Indexed { .. } => Version {
                 reported: true,

@@ -1,12 +1,4 @@
-ghost use Rattle.std.specs.Prelude.{◌≡◌, ◌+◌, ◌<◌, ◌^◌, ◌++◌, IfOk, IfSome, OnOk, List, length};
-ghost use Rattle.std.specs.Option.{option_to_list};
-ghost use Rattle.events.specs.declared.record.Rec.{Rec as Record};
-ghost use Rattle.ruled_out.specs.Reported.{IsKnown};
-ghost use Rattle.ruled_out.specs.aids.KnownPairs.{AreKnown};
-ghost use Rattle.ruled_out.specs.aids.Rooms.{AreRooms};
-ghost use Rattle.ruled_out.specs.aids.Versions.{AreVersions, IsNoted, version_reported, unreported};
-
-use crate::known::Known;
+use crate::known::{Known, having};
 use crate::version::{UNREPORTED, Version};
 use events::Rec;
 use std::alloc::Global;
@@ -23,10 +15,7 @@ pub struct Versions {
 }
 
 // Adds what was heard of a call.
-fn note_reply(versions: &mut Vec<Version>, known: &Known, call: Rec)
-    ensures { (records : List Record) → AreKnown records known.now.pairs.items
-        → IsNoted records call.heard versions.old.items versions.new.items }
-{
+fn note_reply(versions: &mut Vec<Version>, known: &Known, call: Rec) {
     if let Some(heard) = call.heard
         && let Some(pair) = heard.1.pair()
     {
@@ -42,10 +31,7 @@ fn versions_reported(
     alloc: Global,
     known: &Known,
     records: &[Rec],
-) -> Result<Vec<Version>, NoMemory>
-    ensures { IfOk result (λ versions. AreKnown records.now known.now.pairs.items
-        → AreVersions records.now versions.items) }
-{
+) -> Result<Vec<Version>, NoMemory> {
     let mut versions = vec![in alloc; UNREPORTED; known.pairs().len()]?;
     for call in records {
         note_reply(&mut versions, known, *call);
@@ -54,9 +40,7 @@ fn versions_reported(
 }
 
 // Adds the position, if there is one.
-fn push_room(rooms: &mut Vec<usize>, found: Option<usize>) -> Result<(), NoMemory>
-    ensures { OnOk result (rooms.new.items ≡ rooms.old.items ++ option_to_list found) }
-{
+fn push_room(rooms: &mut Vec<usize>, found: Option<usize>) -> Result<(), NoMemory> {
     if let Some(n) = found {
         rooms.push(n)?;
     }
@@ -64,10 +48,7 @@ fn push_room(rooms: &mut Vec<usize>, found: Option<usize>) -> Result<(), NoMemor
 }
 
 // Where there is room for an unknown pair.
-fn rooms_among(alloc: Global, known: &Known) -> Result<Vec<usize>, NoMemory>
-    ensures { IfOk result (λ rooms. (records : List Record) → AreKnown records known.now.pairs.items
-        → AreRooms records rooms.items) }
-{
+fn rooms_among(alloc: Global, known: &Known) -> Result<Vec<usize>, NoMemory> {
     let mut rooms = Vec::new(alloc);
     push_room(&mut rooms, known.gap_above(None))?;
     for place in 0..known.pairs().len() {
@@ -77,13 +58,8 @@ fn rooms_among(alloc: Global, known: &Known) -> Result<Vec<usize>, NoMemory>
 }
 
 impl Versions {
-    ghost use Rattle.ruled_out.specs.aids.VersionsOf.{AreOf, IsLeastAfter, IsPresentWith};
-    ghost use Rattle.ruled_out.specs.aids.Places.{Gives, GoneAt, IsVersionAt, PresentAt};
-
     /// Returns the versions of a document's records.
-    pub fn of(alloc: Global, records: &[Rec]) -> Result<Versions, NoMemory>
-        ensures { IfOk result (AreOf records.now) }
-    {
+    pub fn of(alloc: Global, records: &[Rec]) -> Result<Versions, NoMemory> {
         let known = Known::of(alloc, records)?;
         let reported = versions_reported(alloc, &known, records)?;
         let rooms = rooms_among(alloc, &known)?;
@@ -95,10 +71,7 @@ impl Versions {
     }
 
     /// Returns what replies say of a pair, if the pair is known.
-    pub fn reported_of(&self, pair: Pair) -> Version
-        ensures { (records : List Record) → AreOf records self.now → IsKnown records pair
-            → result ≡ version_reported unreported pair records }
-    {
+    pub fn reported_of(&self, pair: Pair) -> Version {
         let below = self.known.count_below(pair);
         match self.reported.get(below) {
             Some(version) => *version,
@@ -107,11 +80,7 @@ impl Versions {
     }
 
     // What replies say of the known pair at the index; `None` if the pair before it is the same.
-    fn version_at(&self, place: usize) -> Option<Version>
-        requires { place < length self.now.known.pairs.items }
-        ensures { (records : List Record) → AreOf records self.now
-            → IsVersionAt records self.now.known.pairs.items place result }
-    {
+    fn version_at(&self, place: usize) -> Option<Version> {
         if self.known.is_repeated(place) {
             None
         } else {
@@ -121,14 +90,10 @@ impl Versions {
 
     /// Returns the position of a document that has the known pair at the index, if a reply says that the
     /// document was deleted with it. Returns `None` if no reply does, or if the pair before it is the same.
-    pub fn gone_at(&self, place: usize) -> Option<usize>
-        requires { place < length self.now.known.pairs.items }
-        ensures { (records : List Record) → AreOf records self.now
-            → Gives (GoneAt records) self.now.known.pairs.items place result }
-    {
+    pub fn gone_at(&self, place: usize) -> Option<usize> {
         let version = self.version_at(place)?;
         if version.gone {
-            Some(2 * place + 2)
+            Some(having(place))
         } else {
             None
         }
@@ -136,25 +101,18 @@ impl Versions {
 
     /// Returns the position of a document that has the known pair at the index, if no reply says that the
     /// document was deleted with it. Returns `None` if one does, or if the pair before it is the same.
-    pub fn present_at(&self, place: usize) -> Option<usize>
-        requires { place < length self.now.known.pairs.items }
-        ensures { (records : List Record) → AreOf records self.now
-            → Gives (PresentAt records) self.now.known.pairs.items place result }
-    {
+    pub fn present_at(&self, place: usize) -> Option<usize> {
         let version = self.version_at(place)?;
         if version.gone {
             None
         } else {
-            Some(2 * place + 2)
+            Some(having(place))
         }
     }
 
     /// Returns the position of a document that has the pair, if the pair is known and no reply says that the
     /// document was deleted with it.
-    pub fn present_with(&self, pair: Pair) -> Option<usize>
-        ensures exact { (records : List Record) → AreOf records self.now → IsPresentWith records pair result }
-        ensures fits { IfSome result (λ n. n + 1 < 2 ^ 64) }
-    {
+    pub fn present_with(&self, pair: Pair) -> Option<usize> {
         let n = self.known.version_of(pair)?;
         if self.reported_of(pair).gone {
             None
@@ -164,9 +122,7 @@ impl Versions {
     }
 
     /// Returns the least position at which each known pair below the pair was taken.
-    pub fn after_known_below(&self, pair: Pair) -> usize
-        ensures { (records : List Record) → AreOf records self.now → IsLeastAfter records pair result }
-    {
+    pub fn after_known_below(&self, pair: Pair) -> usize {
         match self.known.last_below(pair) {
             Some(last) => self.known.version_of(last).unwrap_or(0),
             None => 0,

@@ -3,14 +3,6 @@ mod describing;
 mod reached;
 mod standing;
 
-ghost use Rattle.std.specs.Prelude.{◌≡◌, List, None as Nothing, Some as Just, IfOk, OnOk, length, slice_get};
-ghost use Rattle.doc_register.specs.Register.{condition_of, value_of};
-ghost use Rattle.events.specs.declared.record.Rec.{Rec as Record};
-ghost use Rattle.ruled_out.specs.Placings.{AreInOrder};
-ghost use Rattle.ruled_out.specs.aids.Offers.{KeepsRooms};
-ghost use Rattle.ruled_out.specs.aids.Wild.{IsReportedAbsent, IsReportedPresent};
-ghost use Rattle.ruled_out.specs.aids.VersionsOf.{AreOf};
-
 use crate::possible::Possible;
 use crate::versions::Versions;
 use crate::writers::Writers;
@@ -36,11 +28,7 @@ pub struct EventWalk {
 }
 
 // The positions at which the document may be absent, by the replies alone.
-fn reported_absent(alloc: Global, versions: &Versions) -> Result<Possible, NoMemory>
-    ensures rooms { IfOk result (λ away. (records : List Record) → KeepsRooms records away) }
-    ensures reported { IfOk result (λ away. (records : List Record) → AreOf records versions.now
-        → IsReportedAbsent records away.positions) }
-{
+fn reported_absent(alloc: Global, versions: &Versions) -> Result<Possible, NoMemory> {
     let mut away = Possible::new(alloc);
     away.insert(0)?;
     for place in 0..versions.known.pairs().len() {
@@ -50,11 +38,7 @@ fn reported_absent(alloc: Global, versions: &Versions) -> Result<Possible, NoMem
 }
 
 // The positions at which it may exist, by the replies alone.
-fn reported_present(alloc: Global, versions: &Versions) -> Result<Possible, NoMemory>
-    ensures rooms { IfOk result (λ there. (records : List Record) → KeepsRooms records there) }
-    ensures reported { IfOk result (λ there. (records : List Record) → AreOf records versions.now
-        → IsReportedPresent records there.positions) }
-{
+fn reported_present(alloc: Global, versions: &Versions) -> Result<Possible, NoMemory> {
     let mut there = Possible::new(alloc);
     for place in 0..versions.known.pairs().len() {
         there.insert_some(versions.present_at(place))?;
@@ -63,13 +47,8 @@ fn reported_present(alloc: Global, versions: &Versions) -> Result<Possible, NoMe
 }
 
 impl EventWalk {
-    ghost use Rattle.ruled_out.specs.aids.States.{AreEarlier, IsAt, KeepsFloors, Offers, PassesCall, PassesCalls};
-
     /// Returns the walk before the first event.
-    pub fn new(alloc: Global, records: &[Rec]) -> Result<EventWalk, NoMemory>
-        ensures known { IfOk result (IsAt records.now) }
-        ensures start { IfOk result (λ walk. (length walk.floors.items ≡ 0) × (walk.reached ≡ 0)) }
-    {
+    pub fn new(alloc: Global, records: &[Rec]) -> Result<EventWalk, NoMemory> {
         let versions = Versions::of(alloc, records)?;
         let absent = reported_absent(alloc, &versions)?;
         let present = reported_present(alloc, &versions)?;
@@ -86,23 +65,13 @@ impl EventWalk {
     }
 
     // Adds what a delete without a reply may do.
-    fn offer_delete(&mut self, condition: Option<Pair>) -> Result<(), NoMemory>
-        ensures keeps { OnOk result (KeepsFloors self.old self.new) }
-        ensures known { OnOk result ((records : List Record) (w : Record) → IsAt records self.old
-            → slice_get records (length self.old.floors.items) ≡ Just w → w.heard ≡ Nothing
-            → w.op ≡ Op.Delete condition → Offers records self.old self.new) }
-    {
+    fn offer_delete(&mut self, condition: Option<Pair>) -> Result<(), NoMemory> {
         self.absent.offer(&self.versions, condition, self.reached)?;
         Ok(())
     }
 
     // Adds what a write without a reply may do that gives a number.
-    fn offer_write(&mut self, k: u64, condition: Option<Pair>) -> Result<(), NoMemory>
-        ensures keeps { OnOk result (KeepsFloors self.old self.new) }
-        ensures known { OnOk result ((records : List Record) (w : Record) → IsAt records self.old
-            → slice_get records (length self.old.floors.items) ≡ Just w → w.heard ≡ Nothing
-            → value_of w.op ≡ Just k → condition_of w.op ≡ condition → Offers records self.old self.new) }
-    {
+    fn offer_write(&mut self, k: u64, condition: Option<Pair>) -> Result<(), NoMemory> {
         self.writers
             .note(&self.versions, k, condition, self.reached)?;
         self.present.offer(&self.versions, condition, self.reached)?;
@@ -110,11 +79,7 @@ impl EventWalk {
     }
 
     // Adds what the next call may do, if it has no reply.
-    fn offer(&mut self, call: &Rec) -> Result<(), NoMemory>
-        ensures keeps { OnOk result (KeepsFloors self.old self.new) }
-        ensures known { OnOk result ((records : List Record) → IsAt records self.old
-            → slice_get records (length self.old.floors.items) ≡ Just call.now → Offers records self.old self.new) }
-    {
+    fn offer(&mut self, call: &Rec) -> Result<(), NoMemory> {
         if call.heard.is_some() {
             return Ok(());
         }
@@ -127,21 +92,14 @@ impl EventWalk {
     }
 
     // Passes the next call.
-    fn pass(&mut self, call: &Rec) -> Result<(), NoMemory>
-        ensures passes { OnOk result (PassesCall self.old self.new) }
-        ensures known { OnOk result ((records : List Record) → IsAt records self.old
-            → slice_get records (length self.old.floors.items) ≡ Just call.now → IsAt records self.new) }
-    {
+    fn pass(&mut self, call: &Rec) -> Result<(), NoMemory> {
         self.offer(call)?;
         self.floors.push(self.reached)?;
         Ok(())
     }
 
     /// Passes the calls that were made before the event.
-    pub fn pass_until(&mut self, records: &[Rec], event: usize) -> Result<(), NoMemory>
-        ensures { OnOk result (AreInOrder records.now → IsAt records.now self.old
-            → AreEarlier records.now self.old.floors.items event → PassesCalls records.now event self.old self.new) }
-    {
+    pub fn pass_until(&mut self, records: &[Rec], event: usize) -> Result<(), NoMemory> {
         for i in self.floors.len()..records.len() {
             if records[i].call_at >= event {
                 return Ok(());

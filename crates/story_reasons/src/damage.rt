@@ -9,7 +9,8 @@ use crate::lost_writes::{LostWrites, lost_writes};
 use crate::reason::{Reason, found_reason};
 use crate::subjects::{Subject, Subjects};
 use events::Rec;
-use evidence::is_document_ruled_out;
+use evidence::Rulings;
+use readings::attempts_of;
 use std::alloc::Global;
 use version_pair::{DocId, NoMemory};
 
@@ -84,18 +85,20 @@ impl Damage {
         &mut self,
         alloc: Global,
         account: &Account<'_>,
+        rulings: &Rulings<'_>,
         doc: usize,
     ) -> Result<bool, NoMemory>
+        requires ruled { doc < length (documents_of rulings.now.history.now) }
         requires judged { doc < length (documents_of account.now.judged.whole.now) }
         requires document { doc < length (documents_of account.now.in_text.whole.now) }
     {
-        let judged = &account.judged;
-        let conflicts = judged.conflicts;
-        if !is_document_ruled_out(alloc, judged.whole, doc, conflicts)? {
+        if !rulings.is_ruled_out(alloc, doc)? {
             return Ok(false);
         }
-        let records = judged.whole.records(doc)?;
+        let judged = &account.judged;
+        let conflicts = judged.conflicts;
         let writes = account.reading.writes;
+        let records = judged.whole.records(doc)?;
         match found_reason(alloc, judged.evidence, &records, conflicts, writes)? {
             Some(reason) => {
                 let reason = reason.in_text(&account.whole_back());
@@ -111,16 +114,18 @@ impl Damage {
         &mut self,
         alloc: Global,
         account: &Account<'_>,
+        rulings: &Rulings<'_>,
         doc: usize,
         subject: &Subject<'_>,
     ) -> Result<(), NoMemory>
+        requires ruled { doc < length (documents_of rulings.now.history.now) }
         requires judged { doc < length (documents_of account.now.judged.whole.now) }
         requires document { doc < length (documents_of account.now.in_text.whole.now) }
     {
         match subject.whole_reason() {
             Some(reason) => self.add(alloc, reason, &subject.records),
             None => {
-                self.add_document(alloc, account, doc)?;
+                self.add_document(alloc, account, rulings, doc)?;
                 Ok(())
             }
         }
@@ -149,11 +154,14 @@ pub fn damage_of(alloc: Global, subjects: &Subjects<'_>) -> Result<Damage, NoMem
         counts: Vec::new(alloc),
         lost: None,
     };
+    let judged = &account.judged;
+    let attempts = attempts_of(account.reading.writes);
+    let rulings = Rulings::of(alloc, judged.whole, judged.conflicts, attempts)?;
     for doc in 0..documents {
         match subject_of(&subjects.list, whole.doc(doc)) {
-            Some(subject) => damage.add_subject(alloc, account, doc, subject)?,
+            Some(subject) => damage.add_subject(alloc, account, &rulings, doc, subject)?,
             None => {
-                let is_added = damage.add_document(alloc, account, doc)?;
+                let is_added = damage.add_document(alloc, account, &rulings, doc)?;
                 // A history has too few documents for the sum to reach the greatest number.
                 damage.others = damage.others.saturating_add(usize::from(is_added));
             }

@@ -1,5 +1,5 @@
 use crate::anomaly::Anomaly;
-use crate::calls::{is_answered_before, version_shown};
+use crate::calls::{is_answered_before, record_of, version_shown};
 use crate::reason::Reason;
 use crate::subject::Unexplained;
 use crate::subjects::Subject;
@@ -112,13 +112,13 @@ fn evident(evidence: Refuted) -> Option<Diagnosis> {
     Some(Diagnosis { anomaly, call })
 }
 
-// Returns the anomaly of the reason that the answer names, or else of the first one.
+// Returns the anomaly of the reason for the document that the answer names, or else of the first one.
 fn reasoned(evidence: Option<Refuted>, subjects: &[Subject<'_>]) -> Option<Diagnosis> {
     for subject in subjects {
         if let Some(reason) = &subject.reason {
             let call = reason.stop.no;
             let is_named = match evidence {
-                Some(Refuted::RuledOut(named)) => named == call,
+                Some(Refuted::RuledOut(named)) => record_of(&subject.records, named).is_some(),
                 _ => true,
             };
             if is_named {

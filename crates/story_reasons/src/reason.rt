@@ -1,4 +1,4 @@
-ghost use Rattle.std.specs.Prelude.{◌<◌, IfOk, IfSome, length};
+ghost use Rattle.std.specs.Prelude.{IfOk, IfSome};
 ghost use Rattle.evidence.specs.Evidence.{IsDocumentRuledOut};
 
 use crate::calls::{EvidenceCalls, end_of, version_shown};
@@ -7,7 +7,7 @@ use crate::subject::Unexplained;
 use doc_register::Conflicts;
 use events::Rec;
 use evidence::{Refuted, is_document_ruled_out};
-use readings::{WayBack, Writes};
+use readings::{WayBack, Writes, attempts_of};
 use ruled_out::{Cause, Stage, Standings, Stop, Unhelpful, Unmet};
 use std::alloc::Global;
 use version_pair::{NoMemory, Pair};
@@ -195,10 +195,10 @@ fn add_unreported(
     stop: Stop,
     writes: Writes,
     number: usize,
-) -> Result<(), NoMemory>
-    requires { number < length standings.now.records.now }
-{
-    let write = standings.records[number];
+) -> Result<(), NoMemory> {
+    let Some(write) = standings.records.get(number).copied() else {
+        return Ok(());
+    };
     if unreported.len() < MOST_LOST && !is_twin(writes, write.no) {
         if let Some(why) = standings.unhelpful(stop, number) {
             unreported.push(Unreported { write, why })?;
@@ -309,7 +309,8 @@ pub fn reason_of(
 {
     let history = unexplained.history;
     let conflicts = unexplained.conflicts;
-    if doc < history.docs() && is_document_ruled_out(alloc, history, doc, conflicts)? {
+    let attempts = attempts_of(writes);
+    if doc < history.docs() && is_document_ruled_out(alloc, history, doc, conflicts, attempts)? {
         return found_reason(alloc, unexplained.evidence, records, conflicts, writes);
     }
     Ok(None)

@@ -5,7 +5,7 @@ use crate::reason_parts::add_reason;
 use crate::reported_calls::add_reported_calls;
 use crate::unreported_words::add_unreported;
 use events::Rec;
-use evidence::Refuted;
+use evidence::{Certainty, Refuted};
 use readings::{Gets, Reading};
 use story_blocks::Draft;
 use story_blocks::Word::{Id, Number};
@@ -144,6 +144,31 @@ fn have_reasons(subjects: &[Subject<'_>]) -> bool {
     false
 }
 
+// Whether a document is ruled out.
+fn is_ruled_out(certainty: Certainty) -> bool {
+    matches!(certainty, Certainty::RuledOut | Certainty::ReportedRuledOut)
+}
+
+// Says that all was tried, if a document is ruled out and no calls are known from which that follows.
+fn add_tried(draft: &mut Draft<'_>, explained: &Subjects<'_>) {
+    let unexplained = &explained.unexplained;
+    let named = match unexplained.evidence {
+        Some(Refuted::RuledOut(no)) => call_of(unexplained.history, no),
+        _ => None,
+    };
+    match (named, explained.list.first()) {
+        (Some(call), _) => draft.paragraph(
+            "All ways in which the calls without a reply may have changed {0} were tried. After the reply to call {1.no}, on line {1.replied}, none is left.",
+            &[Id(call.id), draft.call(&call.record)],
+        ),
+        (None, Some(subject)) => draft.paragraph(
+            "All ways in which the calls without a reply may have changed {0} were tried. None fits the replies.",
+            &[Id(subject.id)],
+        ),
+        (None, None) => {}
+    }
+}
+
 /// Adds why no order can have the replies, if it is known: by evidence, and for each document that is ruled
 /// out; then which calls the first line names, if these are others.
 pub fn add_why<S: OrderSearch>(
@@ -154,7 +179,8 @@ pub fn add_why<S: OrderSearch>(
     let unexplained = &explained.unexplained;
     let reading = explained.account.reading;
     let evident = evident_calls(unexplained);
-    if evident.is_none() && !have_reasons(&explained.list) {
+    let is_tried = evident.is_none() && !have_reasons(&explained.list);
+    if is_tried && !is_ruled_out(unexplained.certainty) {
         return Ok(());
     }
     draft.heading(match reading.gets {
@@ -162,6 +188,9 @@ pub fn add_why<S: OrderSearch>(
         Gets::Any => "Why nothing explains these replies",
     });
     add_other_document(draft, unexplained, &explained.list);
+    if is_tried {
+        add_tried(draft, explained);
+    }
     if let Some(evident) = &evident {
         add_evidence(draft, evident, reading);
     }

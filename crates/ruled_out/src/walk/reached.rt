@@ -1,20 +1,11 @@
 //! The position up to which each known pair has a call that took it.
 
-ghost use Rattle.std.specs.Prelude.{◌↔◌, List, IsTrue};
-ghost use Rattle.events.specs.declared.record.Rec.{Rec as Record};
-ghost use Rattle.ruled_out.specs.Reported.{IsKnown};
-ghost use Rattle.ruled_out.specs.aids.States.{IsAt, KeepsFloors};
-ghost use Rattle.ruled_out.specs.aids.Standing.{AreTaken, IsReachedBy, IsTaken, IsUntaken};
-
 use super::EventWalk;
 use version_pair::Pair;
 
 impl EventWalk {
     // Whether a reply says which call took the known pair, or one without a reply may have written it.
-    fn is_taken(&self, pair: Pair) -> bool
-        ensures { (records : List Record) → IsAt records self.now → IsKnown records pair
-            → (IsTrue result ↔ IsTaken records self.now.floors.items pair) }
-    {
+    fn is_taken(&self, pair: Pair) -> bool {
         if self.versions.reported_of(pair).reported {
             return true;
         }
@@ -22,10 +13,7 @@ impl EventWalk {
     }
 
     // The number of the first known pair, in their order, that no call took.
-    fn first_untaken(&self) -> usize
-        ensures before { (records : List Record) → IsAt records self.now → AreTaken records self.now result }
-        ensures first { (records : List Record) → IsAt records self.now → IsUntaken records self.now result }
-    {
+    fn first_untaken(&self) -> usize {
         for place in self.settled..self.versions.known.pairs().len() {
             let Some(pair) = self.versions.known.pairs().get(place).copied() else {
                 return place;
@@ -38,21 +26,12 @@ impl EventWalk {
     }
 
     // Passes the known pairs that a call took, up to the first that no call took.
-    fn settle(&mut self)
-        ensures keeps { KeepsFloors self.old self.new }
-        ensures known { (records : List Record) → IsAt records self.old → IsAt records self.new }
-        ensures first { (records : List Record) → IsAt records self.old → IsUntaken records self.new self.new.settled }
-    {
+    fn settle(&mut self) {
         self.settled = self.first_untaken();
     }
 
     // Whether each known pair up to the position is among those that were passed.
-    fn has_settled(&self, n: usize) -> bool
-        ensures reached { (records : List Record) → IsAt records self.now → IsTrue result
-            → IsReachedBy records self.now.floors.items n }
-        ensures settled { (records : List Record) → IsAt records self.now → IsUntaken records self.now self.now.settled
-            → IsReachedBy records self.now.floors.items n → IsTrue result }
-    {
+    fn has_settled(&self, n: usize) -> bool {
         let Some(pair) = self.versions.known.pairs().get(self.settled).copied() else {
             return true;
         };
@@ -63,12 +42,7 @@ impl EventWalk {
     }
 
     /// Returns whether each known pair up to the position has a call that took it.
-    pub fn is_reached(&mut self, n: usize) -> bool
-        ensures known { (records : List Record) → IsAt records self.old → IsAt records self.new }
-        ensures keeps { KeepsFloors self.old self.new }
-        ensures reached { (records : List Record) → IsAt records self.old
-            → (IsTrue result ↔ IsReachedBy records self.new.floors.items n) }
-    {
+    pub fn is_reached(&mut self, n: usize) -> bool {
         if self.has_settled(n) {
             return true;
         }

@@ -4,7 +4,7 @@ use Rattle.covers.specs.Covers.{AreWitnesses, HasNoUnpairedCover}
 use Rattle.compose.specs.Verdicts.{Proven}
 use Rattle.covers.specs.Answered.{AreAnswersFor, IsCovered}
 use Rattle.compose.specs.aids.Searched.{AreUnordered}
-use Rattle.compose.proofs.UnorderedLemmas.{are_documents, lists_ruled_out}
+use Rattle.compose.proofs.UnorderedLemmas.{are_documents}
 use Rattle.compose.proofs.VerdictLemmas.{uncovered_has_none, witnesses_explain}
 use Rattle.compose.proofs.checking.verdict_of.Goals as goal
 
@@ -45,9 +45,4 @@ of-requires-in-Ok-NotFound-clause-uncovered c =
 pub of-requires-in-Ok-NotFound-clause-within : goal.of-requires-in-Ok-NotFound-clause-within
 of-requires-in-Ok-NotFound-clause-within c =
     are_documents c.args.conflicts c.args.history c.args.answers.items c.in-Ok.unordered.items c.requires
-    (subst (λ xs. AreUnordered xs (length xs) c.in-Ok.unordered.items) c.deref.ensures.value c.in-Ok.ensures)
-
-pub of-requires-in-Ok-NotFound-clause-listed : goal.of-requires-in-Ok-NotFound-clause-listed
-of-requires-in-Ok-NotFound-clause-listed c =
-    lists_ruled_out c.args.conflicts c.args.history c.args.answers.items c.in-Ok.unordered.items c.len.ensures.history c.requires
     (subst (λ xs. AreUnordered xs (length xs) c.in-Ok.unordered.items) c.deref.ensures.value c.in-Ok.ensures)

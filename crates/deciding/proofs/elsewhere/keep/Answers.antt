@@ -3,13 +3,18 @@ use Rattle.std.proofs.lemmas.Result.{on_ok_weaker}
 use Rattle.version_pair.proofs.ListLemmas.{none_is_not_some, same_some}
 use Rattle.deciding.specs.aids.Above.{IsLeastAbove}
 use Rattle.deciding.specs.aids.Ends.{IsFreeFrom}
-use Rattle.deciding.proofs.EndLemmas.{end_after, ends_too, kept_or_itself, kept_too}
+use Rattle.deciding.proofs.EndLemmas.{end_after, ends_too, kept_or_itself, kept_too, stays_kept}
 use Rattle.deciding.proofs.elsewhere.keep.Goals.{in-Some, in-None}
 use Rattle.deciding.proofs.elsewhere.keep.Goals as goal
 
 pub returns-clause-kept : goal.returns-clause-kept
 returns-clause-kept c =
     on_ok_weaker c.set_end.result (λ too q is. kept_or_itself c.args.ends.now c.set_end.new.ends c.args.pair c.match-least_above.end q too is)
+    (kept_too c.set_end.result c.args.ends.now c.set_end.new.ends c.args.pair c.match-least_above.end c.set_end.ensures.own c.set_end.ensures.others)
+
+pub returns-clause-stays : goal.returns-clause-stays
+returns-clause-stays c =
+    on_ok_weaker c.set_end.result (λ too q is. stays_kept c.args.ends.now c.set_end.new.ends c.args.pair c.match-least_above.end q too is)
     (kept_too c.set_end.result c.args.ends.now c.set_end.new.ends c.args.pair c.match-least_above.end c.set_end.ensures.own c.set_end.ensures.others)
 
 pub returns-clause-ends : goal.returns-clause-ends

@@ -1,4 +1,4 @@
-use Rattle.std.proofs.Common.{◌≡◌, ◌∙◌, true≢false, sym, subst}
+use Rattle.std.proofs.Common.{◌∙◌, true≢false, sym, subst}
 use Rattle.evidence.specs.aids.CallsWithPairs.{IsMissingAs, IsPerformedAs}
 use Rattle.evidence.proofs.EvidenceLemmas.{missed_write_reported, missing_replied, missing_within, of_document, write_within}
 use Rattle.evidence.proofs.holding.is_missed_write.Goals as goal

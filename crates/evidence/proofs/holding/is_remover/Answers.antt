@@ -1,7 +1,7 @@
 use Rattle.std.proofs.Common.{◌∙◌, Some, ap, true≢false, sym, subst}
 use Rattle.events.specs.declared.event.Event.TheVariants.{Call}
 use Rattle.evidence.specs.Evidence.{MayTakeAbove}
-use Rattle.evidence.proofs.EvidenceLemmas.{no_other_removes, remover_reported}
+use Rattle.evidence.proofs.EvidenceLemmas.{remover_reported}
 use Rattle.evidence.proofs.holding.is_remover.Goals as goal
 
 pub returns-then-may_take_above : goal.returns-then-may_take_above

@@ -20,4 +20,4 @@ returns-in_ok-offence-in-No c = λ read verdict kept.
     found_unexplained c.args.options.ruling_out reading read c.in-No.case
     (record { evidence = against.evidence; offence = c.in_ok-offence-in-No.offence }) against.get c.args.text
     (subst (IsVerdictOn (conflicts_as reading.conflicts) (judged reading read)) c.in-No.is verdict) kept
-    c.in_ok-offence-in-No.ensures is.holds is.reportable (is.gets read (judged reading read) kept) is.none
+    c.in_ok-offence-in-No.ensures is.holds is.reportable (is.gets read (judged reading read) kept)

@@ -7,6 +7,3 @@ returns-in-Some-clause-gets c = λ read events kept. subst (IsFoundOfGets c.args
 
 pub returns-in_ok-ruled_out-in-None-clause-gets : goal.returns-in_ok-ruled_out-in-None-clause-gets
 returns-in_ok-ruled_out-in-None-clause-gets c = λ read events kept. subst (IsFoundOfGets c.args.options.reading read) c.in-None.is (c.in_ok-get.ensures read events kept)
-
-pub returns-in_ok-ruled_out-in-None-clause-none : goal.returns-in_ok-ruled_out-in-None-clause-none
-returns-in_ok-ruled_out-in-None-clause-none c = λ none _ on. c.in_ok-ruled_out-in-None.ensures.none none on
