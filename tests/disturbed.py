@@ -24,17 +24,16 @@ from running import run, run_arguments, search_arguments
 FAULTS = ["none", "dirty", "early", "same-term", "stale", "blind"]
 DISTURBANCES = ["none", "cuts", "promotions", "storm"]
 
-# Of the seeds 1 to 20 how many are refuted, by fault and disturbance, and how many get `no`.
+# Of the seeds 1 to 20 how many are refuted, by fault and disturbance.
 FEW = 20
 REFUTED = {
     "none": [0, 0, 0, 0],
-    "dirty": [5, 3, 7, 13],
+    "dirty": [6, 3, 7, 15],
     "early": [19, 12, 20, 20],
     "same-term": [0, 0, 0, 0],
     "stale": [19, 18, 20, 20],
     "blind": [20, 20, 20, 20],
 }
-UNDECIDED = {"dirty": [1, 0, 0, 2]}
 
 # Searches: the fault, the disturbance, the first seed and the last.
 SEARCHES = [
@@ -53,9 +52,8 @@ SETTING = {"clients": 4, "calls": 50, "docs": 2, "copies": 3}
 # How many runs are drawn and made twice.
 DRAWN = 50
 
-# A row of the table of examples/README.md: a fault, what it does, and a cell for each disturbance, which has how many
-# are refuted and, behind a comma, how many get `no`.
-ROW = re.compile(r"\| `([a-z-]+)` \| [^|]+ \|" + r" ([0-9, a-z`]*) \|" * len(DISTURBANCES))
+# A row of the table of examples/README.md: a fault, what it does, and for each disturbance how many are refuted.
+ROW = re.compile(r"\| `([a-z-]+)` \| [^|]+ \|" + r" (\d+) \|" * len(DISTURBANCES))
 
 
 def in_turns(disturbance, **setting):
@@ -72,22 +70,14 @@ def judged(program, arguments):
 
 
 def counts_of_many():
-    """The counts of examples/README.md of 1,000 seeds, by fault and disturbance."""
-    table = {}
-    for fault, *cells in ROW.findall((TOP / "examples" / "README.md").read_text()):
-        for disturbance, cell in zip(DISTURBANCES, cells):
-            numbers = [int(number) for number in re.findall(r"\d+", cell)]
-            table[fault, disturbance] = tuple((numbers + [0, 0])[:2])
-    return table
+    """How many of 1,000 seeds are refuted, by fault and disturbance: the counts of examples/README.md."""
+    rows = ROW.findall((TOP / "examples" / "README.md").read_text())
+    return {(fault, it): int(cell) for fault, *cells in rows for it, cell in zip(DISTURBANCES, cells)}
 
 
 def counts_of_few():
-    """The counts of the first seeds, by fault and disturbance."""
-    return {
-        (fault, disturbance): (REFUTED[fault][at], UNDECIDED.get(fault, [0] * len(DISTURBANCES))[at])
-        for fault in FAULTS
-        for at, disturbance in enumerate(DISTURBANCES)
-    }
+    """How many of the first seeds are refuted, by fault and disturbance."""
+    return {(fault, it): REFUTED[fault][at] for fault in FAULTS for at, it in enumerate(DISTURBANCES)}
 
 
 def drawn(seed):
@@ -144,11 +134,11 @@ class Disturbed(ProgramTest):
     def check_counts(self, pool, fault, disturbance, wanted):
         runs = [in_turns(disturbance, seed=seed, fault=fault, **SETTING) for seed in range(1, self.seeds + 1)]
         counts = Counter(pool.map(lambda it: judged(self.program, it), runs))
-        self.assertLessEqual(set(counts), {"refuted", "no", "yes"})
-        self.assertEqual((counts["refuted"], counts["no"]), wanted)
+        self.assertLessEqual(set(counts), {"refuted", "yes"})
+        self.assertEqual(counts["refuted"], wanted)
 
     def test_counts(self):
-        """So many of the seeds are refuted, and so many get `no`; the others get `yes`."""
+        """So many of the seeds are refuted; the others get `yes`."""
         wanted = counts_of_few() if self.seeds == FEW else counts_of_many()
         with ThreadPoolExecutor() as pool:
             kinds = [(fault, disturbance) for fault in FAULTS for disturbance in DISTURBANCES]

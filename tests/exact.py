@@ -159,6 +159,6 @@ class Search:
 
 
 def has_order(calls, reading, shard_of=one_shard, elsewhere=()):
-    """Whether an order of all calls explains the history, in which no write whose reply doesn't show a pair takes one of
-    these pairs."""
-    return Search(calls, reading, shard_of, elsewhere).has_order()
+    """Whether an order of all calls explains the history, in which no write takes one of the pairs that are elsewhere."""
+    is_taken_twice = any(it.reply and pair_taken(it.reply) in elsewhere for it in calls)
+    return not is_taken_twice and Search(calls, reading, shard_of, elsewhere).has_order()

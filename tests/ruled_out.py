@@ -39,7 +39,7 @@ RECORDINGS, LOST, RULED_OUT = 400, (5, 20), 80
 SMALL, CALLS, UNORDERED = 3_000, 9, 500
 
 # Of the small histories without an order, how many in a hundred may get no.
-MOST_NO = {"plain": 4, "maybe": 10}
+MOST_NO = {"plain": 0, "maybe": 1}
 
 # The kinds of evidence that are reported without the option too, and of answers.
 OLDER = ("pair-twice", "no-writer", "stale-get", "stale-swap")
