@@ -54,7 +54,7 @@ class Connecting:
         self._loop = loop
         self._addresses = addresses
         self._left = list(addresses.known)
-        self._record_all = made
+        self._made = made
         # the timeout of each address in seconds, and when that of the current one is over
         self._each = SECONDS / max(1, len(self._left))
         self._end = 0.0
@@ -109,7 +109,7 @@ class Connecting:
         """Passes on the result."""
         self._is_over = True
         del self._loop.ticks[self._tick]
-        self._loop.soon(lambda: self._record_all(made))
+        self._loop.soon(lambda: self._made(made))
 
     def cancel(self) -> None:
         """Cancels the connection."""
