@@ -53,8 +53,8 @@ class DefaultReading:
             self._take(reason_of(shape, self._served), report)
 
     def take_unknown(self, why: str, report: Callable[[str], object]) -> None:
-        """Takes that the index couldn't be inspected, and why: the OpenSearch profile fits, which accuses
-        less."""
+        """Called with the reason if the index couldn't be inspected: the OpenSearch profile is chosen, since
+        it accuses less."""
         self._take(f"the index couldn't be inspected ({why})", report)
 
     def _take(self, why: str, report: Callable[[str], object]) -> None:

@@ -1,7 +1,7 @@
-"""Readings of a history: what a store promises, which may be less than that each reply shows the last change
-of its document.
+"""Readings of a history: what the store is assumed to promise. In the strict reading, the default, each reply
+shows the last change of its document; the others promise less.
 
-The names and the values are those of casbench's options. The default is the strict reading.
+The names and the values are those of casbench's options.
 """
 
 import argparse

@@ -25,7 +25,7 @@ DISTURBANCES = {
 """The kinds of disturbances of a node."""
 
 
-def parser_of_words() -> argparse.ArgumentParser:
+def argument_parser() -> argparse.ArgumentParser:
     """Returns the argument parser."""
     faults = "; ".join(f"{name}: {meaning}" for name, meaning in FAULTS.items())
     parser = argparse.ArgumentParser(
@@ -105,7 +105,7 @@ def parser_of_words() -> argparse.ArgumentParser:
 
 def parse_arguments(arguments: Optional[Sequence[str]]) -> argparse.Namespace:
     """Parses the arguments; those of the process if there are none."""
-    parser = parser_of_words()
+    parser = argument_parser()
     setting = parser.parse_args(arguments)
     if setting.every < 1:
         parser.error("--every is at least 1")

@@ -51,10 +51,10 @@ PERFORMED = {"created", "updated", "deleted", "not_found"}
 class AnswerRecorder:
     """Records answers."""
 
-    def __init__(self, documents: JudgedDocuments, asking: RequestRecorder) -> None:
+    def __init__(self, documents: JudgedDocuments, requests: RequestRecorder) -> None:
         self._documents = documents
         self._writer = documents.writer
-        self._asking = asking
+        self._requests = requests
         # the endings that are collected, or None if each is written at once
         self._endings: Optional[List[Ending]] = None
 
@@ -279,7 +279,7 @@ class AnswerRecorder:
         documents.recent.add(Document(id, documents.shape.shard_of(id), DocumentState.JUDGED))
         if documents.sweeps != part.sweeps or documents.open_sweeps:
             documents.stop_judging(id, "it was created while a request changed unnamed documents")
-        elif self._asking.write_part(part):
+        elif self._requests.write_part(part):
             self._record_reply(part, status, body)
 
     def _end(
