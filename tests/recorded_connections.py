@@ -31,6 +31,7 @@ from casbench_recording.index_inspection import IndexShape
 from casbench_recording.index_names import Names
 from casbench_recording.proxy.http.client_side import ClientSide
 from casbench_recording.proxy.http.connecting import Addresses, Connecting
+from casbench_recording.proxy.http.exchange import ExchangeState
 from casbench_recording.proxy.http.loop import Loop, Stream
 from casbench_recording.proxy.http.tls import TlsStream
 from casbench_recording.proxy.recording.fast_replies import read_reply
@@ -416,6 +417,24 @@ class Pieces(FolderTest):
             self.assertEqual(self.run_of(turns, True), whole)
             lines += whole.count("\"reply\"")
         self.assertGreater(lines, 100)
+
+    def test_a_slow_client_whose_request_is_held(self):
+        """The cluster is read again when the client has taken what waited, even while items of the request are
+        written; but not if the whole answer is there, which is passed on first."""
+        client, cluster, _ = self.sides(os.path.join(self.folder, "held.ndjson"))
+        client.proxy.work = lambda steps, done: None
+        noted = []
+        cluster.stream.pause_reading = lambda: noted.append("pause")
+        cluster.stream.resume_reading = lambda: noted.append("resume")
+        client.received(b"POST /carts/_bulk HTTP/1.1\r\nContent-Length: 90\r\n\r\n{")
+        self.assertEqual(client.exchange.state, ExchangeState.HELD)
+        client.pause_writing()
+        client.resume_writing()
+        self.assertEqual(noted, ["pause", "resume"])
+        client.exchange.end_answer()
+        client.pause_writing()
+        client.resume_writing()
+        self.assertEqual(noted, ["pause", "resume", "pause"])
 
 
 class Short(unittest.TestCase):
