@@ -17,8 +17,13 @@ METADATA = f"""Metadata-Version: 2.1
 Name: casbench-recording
 Version: {VERSION}
 Summary: Records what clients ask of a store, and what it answers, as history texts for casbench
+License: Apache-2.0
+Classifier: License :: OSI Approved :: Apache Software License
 Requires-Python: >=3.9
 """
+
+# Copies of the files at the top of the checkout, since pip may build this folder alone.
+LICENSES = ("LICENSE", "NOTICE")
 
 WHEEL = """Wheel-Version: 1.0
 Generator: wheel_builder
@@ -46,7 +51,8 @@ def contents() -> Dict[str, bytes]:
     files = sorted(it for it in (HERE / PACKAGE).rglob("*") if it.suffix == ".py" or it.name == "py.typed")
     found = {it.relative_to(HERE).as_posix(): it.read_bytes() for it in files}
     metadata = {"METADATA": METADATA, "WHEEL": WHEEL, "entry_points.txt": entry_points(files)}
-    return {**found, **{f"{FOLDER}/{name}": text.encode() for name, text in metadata.items()}}
+    found.update({f"{FOLDER}/{name}": text.encode() for name, text in metadata.items()})
+    return {**found, **{f"{FOLDER}/{name}": (HERE / name).read_bytes() for name in LICENSES}}
 
 
 def row_of(name: str, content: bytes) -> str:

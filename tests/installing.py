@@ -1,5 +1,6 @@
 #!/usr/bin/env python3
-"""Tests what installs casbench: dist/install, what dist/renew makes for it, and the commands that pip installs.
+"""Tests what installs casbench: dist/install, what dist/renew makes for it, the commands that pip installs, and the
+licences that come with them.
 
     python3 tests/installing.py [PROGRAM]
 
@@ -9,6 +10,7 @@ What is installed is the program in dist/, whichever is named. The last line say
 import importlib.util
 import os
 import pathlib
+import re
 import shutil
 import subprocess
 import sys
@@ -23,14 +25,21 @@ from running import SECONDS
 
 DIST = TOP / "dist"
 
-# What is installed, below the prefix, and where it lies in dist/; and the list of it.
-INSTALLED = {
+# What dist/renew makes and what comes with it, below the prefix, and where it lies as seen from dist/; all of it; and
+# the list of it.
+MADE = {
     "bin/casbench": "x86_64-linux/casbench",
     "share/man/man1/casbench.1": "share/man/man1/casbench.1",
     "share/bash-completion/completions/casbench": "share/bash-completion/completions/casbench",
     "share/zsh/site-functions/_casbench": "share/zsh/site-functions/_casbench",
     "share/fish/vendor_completions.d/casbench.fish": "share/fish/vendor_completions.d/casbench.fish",
 }
+LICENSES = {
+    "share/doc/casbench/LICENSE": "../LICENSE",
+    "share/doc/casbench/NOTICE": "../NOTICE",
+    "share/doc/casbench/THIRD-PARTY": "THIRD-PARTY",
+}
+INSTALLED = {**MADE, **LICENSES}
 LIST = "share/casbench/installed"
 
 NOBODY = 65_534
@@ -187,18 +196,24 @@ class Install(FolderTest):
                 self.assertFalse((self.top / "x").exists())
 
     def copied(self):
-        """A copy of dist/, which everybody may read."""
+        """A copy of dist/ and of the licence beside it, which everybody may read."""
         self.top.chmod(0o755)
-        return pathlib.Path(shutil.copytree(DIST, self.top / "dist", ignore=shutil.ignore_patterns("__pycache__")))
+        checkout = self.top / "checkout"
+        checkout.mkdir(mode=0o755)
+        for name in ("LICENSE", "NOTICE"):
+            shutil.copy(TOP / name, checkout / name)
+        return pathlib.Path(shutil.copytree(DIST, checkout / "dist", ignore=shutil.ignore_patterns("__pycache__")))
 
     def test_what_is_missing(self):
         dist = self.copied()
-        for name in INSTALLED.values():
+        for place, name in INSTALLED.items():
             with self.subTest(name=name):
-                (dist / name).rename(self.top / "away")
+                source = pathlib.Path(os.path.normpath(dist / name))
+                source.rename(self.top / "away")
                 end = self.install("--prefix", "x", dist=dist)
-                (self.top / "away").rename(dist / name)
-                self.assertEqual(end, (1, "", f"dist/install: there is no {dist / name}: dist/renew makes it\n"))
+                (self.top / "away").rename(source)
+                advice = "dist/renew makes it" if place in MADE else "it is a part of the checkout"
+                self.assertEqual(end, (1, "", f"dist/install: there is no {source}: {advice}\n"))
         program = dist / "x86_64-linux" / "casbench"
         program.write_bytes(program.read_bytes()[:100_000])
         end = self.install("--prefix", "x", dist=dist)
@@ -247,7 +262,7 @@ class Install(FolderTest):
         self.assertEqual(self.install("--prefix", self.prefix, dist=dist).status, 0)
         self.assertEqual((self.prefix / "share/man/man1/casbench.1").read_text(), "newer")
         self.assertEqual(self.install("--prefix", self.prefix, "--remove", dist=dist).status, 0)
-        self.assertEqual([it for it in self.top.iterdir() if it != dist], [])
+        self.assertEqual([it for it in self.top.iterdir() if it != dist.parent], [])
 
 
 class Renew(FolderTest):
@@ -267,10 +282,31 @@ class Renew(FolderTest):
             (top / name).chmod(0o755)
         end = ended([top / "dist" / "renew"], env={**os.environ, "PATH": f"{top}/tools:{os.environ['PATH']}"})
         self.assertEqual(end, (0, "", ""))
-        for name in INSTALLED.values():
+        for name in MADE.values():
             self.assertTrue((top / "dist" / name).read_bytes() == (DIST / name).read_bytes(), name)
         sources = (top / "dist" / "x86_64-linux" / "SOURCES").read_text()
         self.assertRegex(sources, r"^toolchain toolchain\nsources \w{64}\nprogram \w{64}\n$")
+
+
+class Licences(unittest.TestCase):
+    """The licence's files in the checkout."""
+
+    def test_the_package_has_copies(self):
+        for name in ("LICENSE", "NOTICE"):
+            self.assertEqual((PACKAGE / name).read_bytes(), (TOP / name).read_bytes(), name)
+
+    def test_each_library_has_a_notice(self):
+        """dist/THIRD-PARTY has an entry for each library that a crate uses and that is none of the checkout's crates,
+        and names the toolchain of the program."""
+        lines = (TOP / "crates.txt").read_text(encoding="utf-8").splitlines()
+        crates = {re.match(r"\w+", it)[0] for it in lines}
+        used = {name for it in lines for name in it.partition(":")[2].split()}
+        third_party = (DIST / "THIRD-PARTY").read_text(encoding="utf-8")
+        entries = set(re.findall(r"^(\w+)\n    ", third_party, re.MULTILINE))
+        self.assertGreaterEqual(len(used - crates), 10)
+        self.assertEqual(used - crates - entries, set())
+        toolchain = (DIST / "x86_64-linux" / "SOURCES").read_text(encoding="utf-8").split()[1]
+        self.assertIn(f"the toolchain {toolchain}.", third_party)
 
 
 @unittest.skipUnless(importlib.util.find_spec("pip"), "this Python has no pip, so the package's commands were not installed")
@@ -303,6 +339,12 @@ class Commands(unittest.TestCase):
         for name, module in names.items():
             self.assert_starts([name], name)
             self.assert_starts([sys.executable, "-m", f"casbench_recording.{module}"], f"{module}.py")
+
+    def test_the_licence_comes_with_it(self):
+        (folder,) = self.installed.glob("casbench_recording-*.dist-info")
+        for name in ("LICENSE", "NOTICE"):
+            self.assertEqual((folder / name).read_bytes(), (TOP / name).read_bytes(), name)
+        self.assertIn("\nLicense: Apache-2.0\n", (folder / "METADATA").read_text(encoding="utf-8"))
 
     def assert_starts(self, command, name):
         """Holds that a command shows its usage by this name, and refuses an argument that it doesn't have."""
