@@ -35,6 +35,8 @@ CRATES = TOP / "crates"
 STORES = [f"examples/stores/{it}README.md" for it in ("", "redis/", "postgresql/", "zookeeper/")]
 DOCUMENTS = [
     "README.md",
+    "CHANGELOG.md",
+    "SECURITY.md",
     "examples/README.md",
     *STORES,
     "recording/README.md",
