@@ -9,7 +9,22 @@ import textwrap
 from . import contracts, proved, sources
 from .sections import SECTIONS
 from .sources import Definition
-from .users import Users, listed
+from .users import Users, cited_by, listed
+
+# The definition that states what an answer means; of those whose equations a `yes` takes only in part, what these
+# equations cite; and the line of the header that the list of all that a `yes` rests on replaces.
+ANSWER = ("report/specs/Verdict.antt", "IsAnswer")
+TAKEN_IN_PART = {
+    ANSWER: [("report/specs/Verdict.antt", "OfText"), ("report/specs/Verdict.antt", "Says")],
+    ("report/specs/Verdict.antt", "Says"): [
+        ("report/specs/Verdict.antt", "IsExplainedWith"),
+        ("result_lines/specs/Lines.antt", "yes_line"),
+    ],
+    ("evidence/specs/Evidence.antt", "Holds"): [
+        ("evidence/specs/Evidence.antt", name) for name in ("HasNoWriter", "IsStaleGet", "IsMissedWrite")
+    ],
+}
+PLACE = "{the definitions that a yes rests on}"
 
 HEADER = sources.TOP / "docs" / "making" / "header_model.md"
 COLUMNS = 110
@@ -175,9 +190,37 @@ class Page:
                 lines += ["", *self.blocks_lines(it.blocks, file), ""]
         return lines + [""]
 
+    def definitions_of_yes(self):
+        """All definitions that a `yes` rests on, each by its file and its name."""
+        cited, reached = set(), [ANSWER]
+        while reached:
+            one = reached.pop()
+            if one not in cited:
+                cited.add(one)
+                own = cited_by(self.files, *one)
+                part = TAKEN_IN_PART.get(one, own)
+                if not set(part) <= set(own):
+                    raise Fault(f"docs/making/model.py: {one[1]} doesn't cite all of {part}")
+                reached += part
+        return cited
+
+    def lines_of_yes(self):
+        """The list of all definitions that a `yes` rests on: of each file their names and the lines they begin on."""
+        cited, lines, files = self.definitions_of_yes(), [], 0
+        for path in self.order:
+            named = [it for it in self.files[path].definitions if (path, it.name) in cited]
+            if named:
+                names = ", ".join(f"`{it.name}` {it.start}" for it in named)
+                lines += wrapped(f"[{path}](#{anchor_of(path)}): {names}", "- ")
+                files += 1
+        return "\n".join([f"These are {len(cited)} definitions of {files} files.", "", *lines])
+
     def text(self):
         """The page."""
-        lines = HEADER.read_text(encoding="utf-8").splitlines() + [""]
+        header = HEADER.read_text(encoding="utf-8")
+        if header.count(PLACE) != 1:
+            raise Fault(f"{HEADER}: {PLACE} doesn't stand there once")
+        lines = header.replace(PLACE, self.lines_of_yes()).splitlines() + [""]
         for title, introduction, paths in SECTIONS:
             lines += [f"## {title}", ""]
             lines += [*wrapped(self.linked(introduction, self.files[paths[0]])), ""] if introduction else []

@@ -29,9 +29,7 @@ class Users:
 
     def add_definition(self, file, definition):
         """Adds a definition to the users of those that it cites."""
-        own = {it.name for it in file.definitions} - {definition.name}
-        for word in sorted(definition.words):
-            cited = (file.path, word) if word in own else file.imports.get(word, ())
+        for cited in words_cited(file, definition):
             self.add(cited, (file.path, definition.name))
 
     def add_contracts(self, crate):
@@ -40,6 +38,19 @@ class Users:
             for name in (it for clause in call.clauses for it in contracts.names_cited(clause, source.imports)):
                 cited = "{}/specs/{}.antt".format(*source.imports[name])
                 self.add((cited, name), ("", f"{crate.name}::{shown}"))
+
+
+def words_cited(file, definition):
+    """What the words of a definition mean: of the same file by its path, of other files by what is imported."""
+    own = {it.name for it in file.definitions} - {definition.name}
+    return [(file.path, word) if word in own else file.imports.get(word, ()) for word in sorted(definition.words)]
+
+
+def cited_by(files, path, name):
+    """The definitions that the one of this name cites, each by its file and its name."""
+    known = {(other, it.name) for other, file in files.items() for it in file.definitions}
+    found = [it for it in files[path].definitions if it.name == name]
+    return [cited for it in found for cited in words_cited(files[path], it) if cited in known]
 
 
 def listed(users):
