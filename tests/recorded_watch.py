@@ -441,21 +441,21 @@ class Readings(unittest.TestCase):
         """An option that comes twice and a value that it doesn't have are refused, with the usage and status 2."""
         readers = {**self.RECORDERS, "watch": lambda words: watch.parse_arguments(["OUT", *words])}
         for (name, read), words in itertools.product(readers.items(), (["--gets", "any"] * 2, ["--profile", "none"], ["--failed", ""])):
-            with self.subTest(f"{name} {words}"), contextlib.redirect_stderr(io.StringIO()) as told:
+            with self.subTest(f"{name} {words}"), contextlib.redirect_stderr(io.StringIO()) as errors:
                 with self.assertRaises(SystemExit) as ended:
                     read(words)
                 self.assertEqual(ended.exception.code, 2)
-                self.assertRegex(told.getvalue(), rf"\Ausage: (?s:.*)error: argument {words[0]}: ")
+                self.assertRegex(errors.getvalue(), rf"\Ausage: (?s:.*)error: argument {words[0]}: ")
 
     def test_room(self):
         """A recording whose writes may be repeated has room for fewer calls."""
         calls = MOST_EVENTS // 3
         for more in (0, 1):
             words = ["--writes", "repeated", "--clients", "1", "--calls", str(calls + more)]
-            with self.subTest(more), contextlib.redirect_stderr(io.StringIO()) as told:
+            with self.subTest(more), contextlib.redirect_stderr(io.StringIO()) as errors:
                 if more:
                     self.assertRaises(SystemExit, self.RECORDERS["record"], words)
-                    self.assertIn(f"over {calls} calls, the maximum of one history", told.getvalue())
+                    self.assertIn(f"over {calls} calls, the maximum of one history", errors.getvalue())
                 else:
                     self.assertEqual(self.RECORDERS["record"](words).reading.most_events, 2 * calls)
 

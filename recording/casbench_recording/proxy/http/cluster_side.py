@@ -212,8 +212,8 @@ class ClusterSide:
         elif exchange.state is ANSWERED and not self.stream.is_closing:
             client.answered()
         else:
-            # (the cluster is gone, or didn't read the rest of the request, which can't be told from the next
-            # one)
+            # (the cluster closed the connection, or answered before it had read the whole request: it would
+            # take the rest of it for the beginning of the next one)
             client.close()
         if client.held:
             client.account()
