@@ -2,8 +2,8 @@
 history.
 
 It is no test itself; tests/agree.py, tests/anomalies.py, tests/evidence.py, tests/lines.py, tests/offences.py,
-tests/orders.py, tests/readings.py, tests/ruled_out.py, tests/simulated_cluster.py and tests/small_drawing.py draw with
-it.
+tests/orders.py, tests/readings.py, tests/repeated_writes.py, tests/ruled_out.py, tests/simulated_cluster.py and
+tests/small_drawing.py draw with it.
 """
 
 from typing import NamedTuple

@@ -6,6 +6,8 @@
 PROGRAM is the built casbench; if it isn't named, the one that ./casbench would run. The last line says how many tests passed and failed.
 """
 
+import contextlib
+import io
 import sys
 import threading
 import time
@@ -16,8 +18,9 @@ from program import TOP
 from program_test import run_tests
 from recordings import FolderTest
 
-from casbench_recording.history import History, Pair
-from casbench_recording.load import MIXTURE, Draw, Habits, Kind, Load, NoOutcome, Outcome, Unreachable, lost_by
+from casbench_recording.history import History, HistoryError, Pair
+from casbench_recording.load import MIXTURE, Draw, Habits, Kind, Load, NoOutcome, Outcome, Unreachable
+from casbench_recording.load import lost_by, own_shard
 
 sys.path.insert(0, str(TOP / "examples" / "harness"))
 
@@ -70,6 +73,9 @@ class NodeSession(Session):
         if self.store.faults.get(self.node) == "silent":
             self.has_failed = True
             raise NoOutcome("silent")
+        if self.store.faults.get(self.node) == "odd" and call.number % 4 == 0:
+            self.has_failed = True
+            raise KeyError("odd\nlines")
         self.is_open = self.store.faults.get(self.node) != "closes"
         return outcome
 
@@ -202,11 +208,83 @@ class LoadTest(FolderTest):
 
     def test_a_bound_client_stays(self):
         store = Nodes(2, {0: "silent"})
-        with History(self.file, most_events=40) as history:
+        with History(self.file, most_events=14) as history:
             load = Load(history, seed=3)
             load.add_clients(1, store, Habits({"get": 1}, is_bound=True), node=0)
             load.run()
-        self.assertEqual((store.sent[0], store.sent[1], history.lost), (20, 0, 20))
+        self.assertEqual((store.sent[0], store.sent[1], history.lost), (7, 0, 7))
+
+    def test_a_client_that_is_answered_at_once_with_an_error_pauses(self):
+        """Each pause is twice as long as the one before, up to half a second."""
+        store = Nodes(2, {0: "silent"})
+        with History(self.file, most_events=14) as history:
+            load = Load(history, seed=3)
+            load.add_clients(1, store, Habits({"get": 1}, is_bound=True), node=0)
+            began = time.monotonic()
+            load.run()
+        # (before the second call to the seventh)
+        self.assertGreaterEqual(time.monotonic() - began, 0.02 + 0.04 + 0.08 + 0.16 + 0.32 + 0.5)
+
+    def test_a_node_that_is_out_of_order_uses_up_few_calls(self):
+        """Of two clients one is bound to such a node; the other one makes nearly all calls."""
+        store = Nodes(2, {0: "silent"})
+        with History(self.file, most_events=1000) as history:
+            load = Load(history, seed=3)
+            for node in (0, 1):
+                load.add_clients(1, store, Habits({"get": 1}, is_bound=True), node=node)
+            load.run()
+        self.assertEqual(history.calls, 500)
+        self.assertTrue(1 <= history.lost <= 50, history.lost)
+
+    def test_a_client_does_not_pause_for_what_came_late_or_was_dropped(self):
+        for store, dropped in ((Nodes(1, {0: "silent"}, pause=0.06), 0), (Nodes(1), 1000)):
+            self.file = f"{self.folder}/{dropped}"
+            with History(self.file, most_events=20) as history:
+                load = Load(history, seed=3)
+                (client,) = load.add_clients(1, store, Habits({"get": 1}, dropped=dropped))
+                load.run()
+            self.assertEqual((history.lost, client.pause), (10, 0.0))
+
+    def test_documents_on_shards_of_their_own(self):
+        self.run_load(Nodes(1), habits=Habits(MIXTURE, 3, shard_of=own_shard))
+        calls = [it for it in self.lines() if it["e"] == "call"]
+        self.assertEqual({(it["id"], it.get("shard", 0)) for it in calls}, {("d0", 0), ("d1", 1), ("d2", 2)})
+        self.assertEqual(self.check(), "yes docs=3 calls=400 left_out=0")
+
+    def test_an_exception_that_no_lost_by_names_loses_the_call(self):
+        """It is reported once, in one line, and the recording goes on."""
+        for kind in ("get", "bulk"):
+            self.file = f"{self.folder}/{kind}"
+            with contextlib.redirect_stderr(io.StringIO()) as reported:
+                load = self.run_load(Nodes(1, {0: "odd"}), habits=Habits({kind: 1, "index": 1}, 3))
+            self.assertEqual((load.history.calls, load.faults), (400, []))
+            self.assertGreaterEqual(load.history.lost, 100)
+            (line,) = reported.getvalue().splitlines()
+            self.assertRegex(line, r"^load: call \d+ is lost by KeyError, which no lost_by names, at ")
+            self.assertRegex(line, r" at recorded_load.py:\d+: .*odd")
+            self.assertEqual(self.check().partition(" left_out")[0], "yes docs=3 calls=400")
+
+    def test_an_exception_by_which_each_call_is_lost_ends_the_recording(self):
+        """A history without replies would get `yes`, though the mapping never works."""
+
+        class Broken(Nodes):
+            def get(self, id):
+                raise KeyError(id)
+
+        with contextlib.redirect_stderr(io.StringIO()) as reported:
+            self.assertRaises(KeyError, self.run_load, Broken(1), calls=20, habits=Habits({"get": 1}))
+        self.assertIn("which no lost_by names", reported.getvalue())
+
+    def test_a_fault_of_the_history_ends_the_recording(self):
+        class Full(Outcome):
+            def write(self, call):
+                raise HistoryError("no space left")
+
+        class Store(Nodes):
+            def get(self, id):
+                return Full(Kind.MISSING)
+
+        self.assertRaises(HistoryError, self.run_load, Store(1), habits=Habits({"get": 1}))
 
     def test_it_is_disturbed_each_time_there_are_so_many_more_calls(self):
         at = []

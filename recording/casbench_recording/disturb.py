@@ -94,6 +94,17 @@ def read_plan(path: str) -> List[Disturbance]:
         raise argparse.ArgumentTypeError(f"{path}: {fault}") from fault
 
 
+def add_disturb_option(add: Callable[..., object]) -> None:
+    """Adds the option with a plan."""
+    add(
+        "--disturb",
+        type=read_plan,
+        metavar="PLAN",
+        default=[],
+        help="disturb the cluster: run the commands of this plan during the recording",
+    )
+
+
 class Disturber:
     """Runs a plan while its block runs, on a thread of its own. What was begun is ended at the end of the
     block, however that ends."""

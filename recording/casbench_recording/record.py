@@ -39,7 +39,7 @@ from .cluster import (
 )
 from .console import ENDED_EARLY, counted
 from .default_reading import DefaultReading
-from .disturb import Disturber, read_plan
+from .disturb import Disturber, add_disturb_option
 from .history.continuing import Continuing, add_part_options
 from .history.readings import OPENSEARCH, Reading, add_reading_options, is_named, reading_of
 from .history.writing import CallWriter, History, HistoryError
@@ -289,13 +289,7 @@ def parse_arguments(arguments: Optional[Sequence[str]]) -> argparse.Namespace:
     add_part_options(add)
     add_reading_options(add, gets=OF_THE_PRIMARY)
     add_watch_options(add)
-    add(
-        "--disturb",
-        type=read_plan,
-        metavar="PLAN",
-        default=[],
-        help="disturb the cluster: run the commands of this plan during the recording",
-    )
+    add_disturb_option(add)
     add("--replicas", type=number_from(0), help="number of replicas of the index (the cluster's default)")
     add_certificate_options(add)
     setting = parser.parse_args(arguments)

@@ -5,10 +5,13 @@
 the witness isn't valid.
 """
 
-from typing import Iterator, Mapping, NamedTuple, Optional, Tuple
+import heapq
+from bisect import bisect_right
+from typing import Iterator, List, Mapping, NamedTuple, Optional, Sequence, Tuple
 
 from . import witness_checker
 from .format import Pair, compact
+from .named_calls import named, spelled
 from .readings import STRICT, Reading
 
 # From a log
@@ -18,7 +21,7 @@ class StoreLog(NamedTuple):
     """What a store's own log says of the calls of a history, by their numbers.
 
     `changes` has the pair of each change, by the call that made it. `seen` has for each other answered call
-    the pair of the last change, of any document, that its answer had seen.
+    the pair of the last change that its answer had seen: of its shard, or of its document alone.
     """
 
     changes: Mapping[int, Pair]
@@ -38,11 +41,64 @@ class PlaceInLog(NamedTuple):
 def witness_by_log(history: bytes, log: StoreLog) -> Iterator[str]:
     """Returns the lines of a witness according to the log: each change in the order of the log, each other
     answered call after the last change that it had seen. Calls that are neither in the log nor in `seen` have
-    no place."""
+    no place.
+
+    An answer that had not seen a change which was acknowledged before its call came from a node that was
+    behind, such as a leader that was replaced. If it is true at a moment of the call all the same, as a
+    conflict may be, the call has the first such place.
+    """
     for id, calls in witness_checker.Texts(history, b"").records.items():
         yield compact({"doc": id}) + "\n"
-        for place in sorted(filter(None, (place_of(*it, log) for it in enumerate(calls)))):
+        places = sorted(filter(None, (place_of(*it, log) for it in enumerate(calls))))
+        for place in sorted(DocumentOrder(calls, places).in_time()):
             yield text_of_place(place)
+
+
+class DocumentOrder:
+    """The changes of a document in the order of the log, what the document is after each, and the places of
+    its other calls."""
+
+    def __init__(
+        self, calls: Sequence[witness_checker.CheckedCall], places: Sequence[PlaceInLog]
+    ) -> None:
+        self.calls = calls
+        self.changes = [it for it in places if not it.is_behind]
+        self.others = sorted((it for it in places if it.is_behind), key=lambda it: it.record)
+        self.versions: List[witness_checker.DocVersion] = [(None, None)]
+        for it in self.changes:
+            call, given = calls[it.record], it.pair if it.is_given else None
+            after = witness_checker.version_after(call, given, self.versions[-1])
+            self.versions.append(after or (it.pair, call.k))
+
+    def in_time(self) -> Iterator[PlaceInLog]:
+        """Returns the places. A call whose answer was behind has a later one if it fits there."""
+        yield from self.changes
+        pairs = [it.pair for it in self.changes]
+        # the answers so far, each with how many changes stand before what is called after it
+        before = [(self.calls[it.record].answered, at) for at, it in enumerate(self.changes, 1)]
+        answers = [(answered, at) for answered, at in before if answered is not None]
+        heapq.heapify(answers)
+        least = 0
+        for it in self.others:
+            call = self.calls[it.record]
+            while answers and answers[0][0] < call.made:
+                least = max(least, heapq.heappop(answers)[1])
+            at = bisect_right(pairs, it.pair)
+            later = self.later(call, least) if at < least else None
+            if later is not None:
+                at, it = later, it._replace(pair=pairs[later - 1])
+            heapq.heappush(answers, (call.answered or 0, at))
+            yield it
+
+    def later(self, call: witness_checker.CheckedCall, least: int) -> Optional[int]:
+        """Returns the least number of changes, of `least` and more, after which the document is as the reply
+        says. None of them was called after the reply."""
+        for at in range(least, len(self.versions)):
+            if at > least and self.calls[self.changes[at - 1].record].made > (call.answered or 0):
+                return None
+            if witness_checker.version_after(call, None, self.versions[at]) is not None:
+                return at
+        return None
 
 
 def place_of(record: int, call: witness_checker.CheckedCall, log: StoreLog) -> Optional[PlaceInLog]:
@@ -61,20 +117,6 @@ def text_of_place(place: PlaceInLog) -> str:
 
 
 # The check
-
-
-def spelled(pair: Tuple[int, int]) -> str:
-    """Returns a pair as term/number."""
-    return f"{pair[0]}/{pair[1]}"
-
-
-def named(call: witness_checker.CheckedCall) -> str:
-    """Describes a call: what it requested, and the reply."""
-    asked = call.op if call.condition is None else f"{call.op} under {spelled(call.condition)}"
-    shown = "" if call.pair is None else f" {spelled(call.pair)}"
-    k = "" if call.found is None else f" with k={call.found}"
-    again = ", performed again" if call.is_again else ""
-    return f"call {call.number} ({asked}{again}: {call.reply}{shown}{k})"
 
 
 def version_named(last: Optional[Tuple[int, int]], k: Optional[int]) -> str:

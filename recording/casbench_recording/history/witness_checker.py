@@ -112,12 +112,12 @@ def hear(call: CheckedCall, event: int, status: int, body: Any) -> None:
         call.answered, call.reply, call.was_there, call.pair = event, reply, was_there, pair
 
 
-def read(text: bytes, file: str, take: Callable[[Any], None]) -> None:
-    """Hands the value of each line that isn't blank to `take`, which raises an error at a forbidden one."""
+def read(text: bytes, file: str, take: Callable[[Any, int], None]) -> None:
+    """Hands the value and number of each line that isn't blank to `take`, which raises an error to refuse."""
     for number, line in enumerate(text.split(b"\n"), 1):
         try:
             if line.strip(b" \t\r"):
-                take(json.loads(line.decode()))
+                take(json.loads(line.decode()), number)
         except (AttributeError, IndexError, KeyError, TypeError, ValueError, RecursionError) as fault:
             raise Refused(f"file={file} line={number}") from fault
 
@@ -134,7 +134,7 @@ class Texts:
         read(history, "history", self.take_event)
         read(witness, "witness", self.take_place)
 
-    def take_event(self, line: Members) -> None:
+    def take_event(self, line: Members, _: int) -> None:
         # (the number behind that of a call is for the second time that its write is performed)
         event, is_call = 2 * (len(self.calls) + len(self.ended)), line["e"] == "call"
         call = call_of(line, event) if is_call else self.calls[number_in(line, "n", 64)]
@@ -152,7 +152,7 @@ class Texts:
         else:
             self.ended.add(call.number)
 
-    def take_place(self, line: Members) -> None:
+    def take_place(self, line: Members, _: int) -> None:
         if "doc" in line:
             self.entries.append((id_in(line, "doc"), []))
         else:

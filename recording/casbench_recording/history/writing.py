@@ -452,7 +452,9 @@ class History(CallWriter):
 
     def _write(self, lines: str) -> None:
         """Appends lines to the file. If that fails, the written part is removed."""
-        data = lines.encode() if not self._note else self._noted(lines.encode())
+        data = lines.encode()
+        if self._note:
+            data = self._noted(data)
         length = len(data)
         try:
             count = self._file.write(data)

@@ -21,6 +21,7 @@ from .clients import (
     Store,
     Unreachable,
     lost_by,
+    own_shard,
 )
 
 __all__ = [
@@ -41,4 +42,5 @@ __all__ = [
     "Store",
     "Unreachable",
     "lost_by",
+    "own_shard",
 ]

@@ -13,9 +13,12 @@ to the next node.
 
 import contextlib
 import enum
+import os
 import random
+import sys
 import threading
 import time
+import traceback
 from dataclasses import dataclass
 from typing import (
     Callable,
@@ -26,14 +29,17 @@ from typing import (
     Optional,
     Protocol,
     Sequence,
+    Set,
+    Tuple,
     Type,
     TypeVar,
     cast,
     runtime_checkable,
 )
 
+from casbench_recording.console import escaped
 from casbench_recording.history.format import Operation, Pair
-from casbench_recording.history.writing import Call, CallWriter, Ended
+from casbench_recording.history.writing import Call, CallWriter, Ended, HistoryError
 from casbench_recording.history.writing import NoOutcome as NoOutcome
 
 WRITES = ("index", "create", "delete", "index-if", "delete-if")
@@ -49,9 +55,21 @@ ANY_NUMBER = 2**62
 RECONNECTS = 0.02
 """How many seconds a client waits before it tries the next node, if it couldn't connect."""
 
+AT_ONCE = 0.05
+"""A call that is lost within so many seconds was answered with an error. Its client pauses: otherwise a node
+that is out of order would use up the calls of the history."""
+
+LONGEST_PAUSE = 0.5
+"""How many seconds a client pauses at most. The first pause takes RECONNECTS seconds, and each further one in
+a row twice as long as the one before."""
+
 
 class Unreachable(Exception):
     """No connection to a node could be made, so nothing was requested."""
+
+
+class Dropped(NoOutcome):
+    """The client dropped the answer itself."""
 
 
 @contextlib.contextmanager
@@ -79,7 +97,8 @@ class Kind(enum.Enum):
 class Outcome:
     """The answer to a call. `pair` is that of the change, or of the version that was found, with the value
     `k`. `seen` is the pair of the last change that the answer had seen, if the store says so: a witness needs
-    it for gets and conflicts."""
+    it for gets and conflicts. It may be the last change of the shard, or of this document alone, if the store
+    says no more. Before the first change of all it is any lesser pair, such as `Pair(1, 0)`."""
 
     kind: Kind
     pair: Optional[Pair] = None
@@ -193,11 +212,22 @@ class Draw:
         return least + self.random() * (most - least)
 
 
+def one_shard(_: str) -> int:
+    """Returns the shard of a document if all are on one shard, whose changes are counted together."""
+    return 0
+
+
+def own_shard(id: str) -> int:
+    """Returns the shard of a document of the load if each is a shard of its own: the number in its id."""
+    return int(id[1:])
+
+
 @dataclass(frozen=True)
 class Habits:
     """How a client behaves: the frequency of each kind of turn, the number of documents, how many of a
     thousand answers it drops, whether it stays with its node after a fault, the maximum number of its calls,
-    and the number of writes in a bulk request."""
+    the number of writes in a bulk request, and the shard of a document by its id. `shard_of=own_shard` is for
+    a store that counts the changes of each document by themselves."""
 
     mixture: Mapping[str, int]
     documents: int = 8
@@ -205,6 +235,7 @@ class Habits:
     is_bound: bool = False
     calls: int = ANY_NUMBER
     bulk_items: int = 4
+    shard_of: Callable[[str], int] = one_shard
 
     @property
     def writes(self) -> Mapping[str, int]:
@@ -233,6 +264,8 @@ class Client(threading.Thread):
         self.calls = 0
         # the last pair that the client received, by document
         self.known: Dict[str, Pair] = {}
+        # how long it pauses before its next call, in seconds
+        self.pause = 0.0
 
     def run(self) -> None:
         """Makes calls until the load is over."""
@@ -268,15 +301,13 @@ class Client(threading.Thread):
         """Makes a call; returns the pair of the document, if it exists then."""
         session = self.connected()
         (call,) = self.begin([it])
-        with call:
-            try:
-                session.send(call)
-                result = self.received(lambda: session.outcome(call))
-                result.write(call)
-            except NoOutcome:
-                self.leave()
-                return None
-        return self.learn(call, result)
+        result: Optional[CallResult] = None
+        with call, self.lost_by_fault(call):
+            session.send(call)
+            answer = self.received(lambda: session.outcome(call))
+            answer.write(call)
+            result = answer
+        return None if result is None else self.learn(call, result)
 
     def make_bulk(self, operations: Sequence[Operation]) -> None:
         """Makes a bulk request. Its items are separate calls, all of which are made before any is
@@ -284,22 +315,35 @@ class Client(threading.Thread):
         session = cast(BulkSession, self.connected())
         calls = self.begin(operations[: min(self.left, self.load.history.room)])
         outcomes: Sequence[Optional[CallResult]] = [None] * len(calls)
-        try:
+        with self.lost_by_fault(calls[0]):
             session.send_all(calls)
             outcomes = self.received(lambda: session.outcomes(calls))
-        except NoOutcome:
-            self.leave()
         for call, result in zip(calls, outcomes):
-            with call, contextlib.suppress(NoOutcome):
+            with call, contextlib.suppress(NoOutcome), self.load.lost_by_any(call):
                 if result is not None:
                     result.write(call)
                     self.learn(call, result)
 
+    @contextlib.contextmanager
+    def lost_by_fault(self, call: Call) -> Iterator[None]:
+        """Leaves the node if the block raises an exception, by which its calls are lost. If that comes at
+        once the client pauses before its next call."""
+        began = time.monotonic()
+        try:
+            with self.load.lost_by_any(call):
+                yield
+        except NoOutcome as fault:
+            self.leave()
+            is_error = not isinstance(fault, Dropped) and time.monotonic() - began < AT_ONCE
+            self.pause = min(2 * self.pause or RECONNECTS, LONGEST_PAUSE) if is_error else 0.0
+        else:
+            self.pause = 0.0
+
     def begin(self, operations: Sequence[Operation]) -> List[Call]:
         """Writes the lines of calls. The value of a write is the number of its call."""
-        name = self.names[self.node]
+        name, shard_of = self.names[self.node], self.habits.shard_of
         calls = self.load.history.write_all(
-            [it._replace(node=name) for it in operations] if name else operations
+            [it._replace(node=name, shard=shard_of(it.id)) for it in operations]
         )
         self.calls += len(calls)
         return calls
@@ -311,7 +355,7 @@ class Client(threading.Thread):
             return receive()
         if self.draw.below(2):
             receive()
-        raise NoOutcome("dropped")
+        raise Dropped
 
     def learn(self, call: Call, result: CallResult) -> Optional[Pair]:
         """Keeps what an answer says; returns the pair of the document, if it exists then."""
@@ -332,6 +376,8 @@ class Client(threading.Thread):
     def connected(self) -> Session:
         """Returns the connection, which is made before the call is recorded. Raises Ended if the load is
         over."""
+        if self.pause:
+            time.sleep(self.pause)
         while self.left > 0 and not self.load.is_over():
             if self.session is not None and self.session.is_open:
                 return self.session
@@ -375,6 +421,10 @@ class Load:
         self.clients: List[Client] = []
         self.faults: List[BaseException] = []
         self.seen: Dict[int, Pair] = {}
+        # what was reported: the types of exceptions, and the lines of source that raised them
+        self.reported: Set[Tuple[str, str]] = set()
+        # the first exception that no `lost_by` names
+        self.unnamed: Optional[Exception] = None
         self.held: Dict[Client, threading.Event] = {}
 
     def add_clients(
@@ -389,13 +439,39 @@ class Load:
         self.clients += added
         return added
 
+    @contextlib.contextmanager
+    def lost_by_any(self, call: Call) -> Iterator[None]:
+        """Converts exceptions that no `lost_by` names to NoOutcome, and reports them; but not those of the
+        history."""
+        try:
+            yield
+        except (NoOutcome, Ended, HistoryError):
+            raise
+        except Exception as fault:
+            self.unnamed = self.unnamed or fault
+            self.report(call, fault)
+            raise NoOutcome(str(fault)) from fault
+
+    def report(self, call: Call, fault: Exception) -> None:
+        """Writes a line to standard error about an exception that lost a call, the first time that this line
+        of the store's mapping raises one of its type."""
+        frames = traceback.extract_tb(fault.__traceback__)
+        outside = [it for it in frames if it.filename != __file__] or frames
+        last = [it for it in outside if it.filename == outside[0].filename][-1]
+        kind, place = type(fault).__name__, f"{os.path.basename(last.filename)}:{last.lineno}"
+        if (kind, place) not in self.reported:
+            self.reported.add((kind, place))
+            text = f"load: call {call.number} is lost by {kind}, which no lost_by names, at {place}: {fault}"
+            print(escaped(text), file=sys.stderr, flush=True)
+
     def is_over(self) -> bool:
         """Returns whether no more calls are made."""
         return bool(self.faults) or not self.history.room or self.has_ended()
 
     def run(self, disturb: Callable[[], None] = lambda: None, calls_between: int = 600) -> None:
         """Runs the clients until all have made their calls, and disturbs the store after each `calls_between`
-        calls. If it is interrupted, it doesn't wait for open calls."""
+        calls. If it is interrupted, it doesn't wait for open calls. If no call was answered, it raises the
+        first exception that no `lost_by` names: a history without replies would get `yes`."""
         for client in self.clients:
             client.start()
         try:
@@ -408,6 +484,8 @@ class Load:
             client.join()
         if self.faults:
             raise self.faults[0]
+        if self.unnamed is not None and not self.history.replies:
+            raise self.unnamed
 
     def wait_for(self, calls: int) -> bool:
         """Waits until there are this many calls; returns whether the load goes on."""

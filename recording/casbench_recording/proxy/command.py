@@ -45,7 +45,7 @@ from casbench_recording.console import (
     report_line,
     usage_name,
 )
-from casbench_recording.disturb import Disturber, read_plan
+from casbench_recording.disturb import Disturber, add_disturb_option
 from casbench_recording.history.by_shard import Parts
 from casbench_recording.history.continuing import Continuing, add_part_options
 from casbench_recording.history.readings import add_reading_options, reading_of
@@ -132,13 +132,7 @@ def parse_arguments(arguments: Sequence[str]) -> argparse.Namespace:
     add("--most-documents", type=number_from(2), metavar="N", default=MOST_KEPT, help=most)
     add_reading_options(add)
     add_watch_options(add)
-    add(
-        "--disturb",
-        type=read_plan,
-        metavar="PLAN",
-        default=[],
-        help="disturb the cluster: run the commands of this plan during the recording",
-    )
+    add_disturb_option(add)
     add(
         "--stop-when-ended",
         action="store_true",

@@ -78,12 +78,12 @@ class ClientSide(ClientConnection):
         if node.sent_host or request.fields.offers_upgrade:
             head, rest = passed_head(head, node.sent_host), data[end:]
             data, end = head + rest, len(head)
-        judge, length = self.proxy.judge, request.length
-        route = judge.route(request.method, request.target, node.paths)
+        route = self.proxy.judge.route(request.method, request.target, node.paths)
         exchange = self.exchange = Exchange(request, route)
         if end > LONGEST_REMEMBERED:
             exchange.weight = HEADS * end
         is_bulk = route.kind is BULK
+        length = request.length
         if (
             is_bulk
             and self.proxy.discovery is not None
@@ -93,14 +93,17 @@ class ClientSide(ClientConnection):
         ):
             # (it may create the index, and is read as a whole)
             is_bulk = False
-        if length is not None and len(data) >= end + length and not (is_bulk and request.fields.encoding):
-            whole = end + length
+        if (
+            length is not None
+            and len(data) >= (whole := end + length)
+            and not (is_bulk and request.fields.encoding)
+        ):
             self.data = data[whole:]
             self.record_and_send(exchange, data[end:whole], data[:whole], True)
             return False
         if is_bulk:
             exchange.incoming = IncomingBulkRequest(data[:end], request.body(), request.fields.encoding)
-            exchange.recorded = judge.requests.begin_bulk(route, self.requester_of(request))
+            exchange.recorded = self.proxy.judge.requests.begin_bulk(route, self.requester_of(request))
         else:
             exchange.incoming = IncomingRequest(data[:end], request.body(), route is not PASS)
         self.data = data[end:]

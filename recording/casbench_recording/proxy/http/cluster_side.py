@@ -87,16 +87,16 @@ class ClusterSide:
             return False
         head = data[:end]
         response = remembered_response(head) if end <= LONGEST_REMEMBERED else read_response(head)
-        method = exchange.request.method
         if response.status < 200:
             self.data = data[end:]
             self.go_on(exchange, response, head)
-        elif len(data) - end == response.length_for(method):
-            self.data, exchange.answer = b"", data
+        elif len(data) - end == response.length_for(exchange.request.method):
+            self.data = b""
+            exchange.answer = data
             self.finish(exchange, response, data[end:])
         else:
             self.data = data[end:]
-            body = response.body(method)
+            body = response.body(exchange.request.method)
             body.is_kept = exchange.recorded is not None
             exchange.response, exchange.body = response, body
             exchange.answer = bytearray(head)
@@ -152,7 +152,10 @@ class ClusterSide:
             self.discover_made_index(exchange, recorded, response, plain)
         elif len(recorded.parts) <= MOST_AT_ONCE:
             proxy.judge.answers.record(recorded, response.status, plain, fields.length)
-            (self.deliver if proxy.discovery is None else self.discover_index)(exchange)
+            if proxy.discovery is None:
+                self.deliver(exchange)
+            else:
+                self.discover_index(exchange)
         else:
             self.work(proxy.judge.answers.record_in_steps(recorded, response.status, plain), exchange)
 
@@ -206,14 +209,17 @@ class ClusterSide:
     def deliver(self, exchange: Exchange) -> None:
         """Passes on an answer, or the last part of it, and goes on with the next request."""
         client = self.client
-        self.pass_on(exchange)
-        if self.data:
-            self.fail("there was data after the answer")
-        elif exchange.state is ANSWERED and not self.stream.is_closing:
+        if exchange.state is ANSWERED and not self.data and not self.stream.is_closing:
+            # (the exchange is over, so nothing is noted in it)
+            client.stream.write(exchange.answer)
             client.answered()
+        elif self.data:
+            self.pass_on(exchange)
+            self.fail("there was data after the answer")
         else:
             # (the cluster closed the connection, or answered before it had read the whole request: it would
             # take the rest of it for the beginning of the next one)
+            self.pass_on(exchange)
             client.close()
         if client.held:
             client.account()

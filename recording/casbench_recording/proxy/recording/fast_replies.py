@@ -65,6 +65,11 @@ def found(match: "re.Match[bytes]", content: bytes) -> Optional[JsonObject]:
     if digest is None:
         return None
     index, id, seq, term = match.groups()
-    shown = {"_index": index.decode(), "_id": id.decode(), "found": True, "_source": digest}
-    shown["_seq_no"], shown["_primary_term"] = int(seq), int(term)
-    return shown
+    return {
+        "_index": index.decode(),
+        "_id": id.decode(),
+        "_seq_no": int(seq),
+        "_primary_term": int(term),
+        "found": True,
+        "_source": digest,
+    }

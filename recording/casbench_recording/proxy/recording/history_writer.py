@@ -8,6 +8,7 @@ from casbench_recording.history.carried_over import Beginning
 from casbench_recording.history.continuing import Continuing, TooManyLost
 from casbench_recording.history.format import Loss, Reply
 from casbench_recording.history.writing import Call, CallWriter, Ended, Ending, Histories, HistoryError
+from casbench_recording.proxy.state.documents import Document
 from casbench_recording.proxy.state.unjudged_list import UnjudgedList
 
 from .bulk_items import UnknownWrites
@@ -96,16 +97,16 @@ class HistoryWriter:
                 self._go_on(parts)
             return
 
-    def write_call(self, history: CallWriter, part: RequestedCall) -> None:
-        """The same for a single call, which is faster."""
+    def write_call(self, part: RequestedCall, document: Document) -> None:
+        """The same for a single call on this document, which is faster."""
         if not self.has_ended:
+            history = self.history.of_shard(document.shard)
             try:
                 part.call = call = history.call_one(part.operation)
             except (TooManyLost, Ended, HistoryError) as fault:
                 self._left(history, [part], fault)
                 return
-            if part.document is not None:
-                part.document.opens(call)
+            document.opens(call)
             if self._moved:
                 self._go_on([part])
 

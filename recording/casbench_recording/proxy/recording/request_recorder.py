@@ -150,8 +150,7 @@ class RequestRecorder:
         document = self._document_of(part, requester)
         if document is not None:
             self.set_operation(part, document, requester)
-            writer = self._writer
-            writer.write_call(writer.history.of_shard(document.shard), part)
+            self._writer.write_call(part, document)
         return RecordedRequest(kind, (part,), is_head)
 
     def _record_all(
