@@ -32,13 +32,14 @@ from making import contracts, proved  # noqa: E402
 from making import sources as making  # noqa: E402
 
 CRATES = TOP / "crates"
-STORES = [f"examples/stores/{it}README.md" for it in ("", "redis/", "postgresql/", "zookeeper/")]
+STORES = [f"examples/stores/{it}README.md" for it in ("", "redis/", "postgresql/", "zookeeper/", "nats/", "galera/")]
 DOCUMENTS = [
     "README.md",
     "CHANGELOG.md",
     "SECURITY.md",
     "examples/README.md",
     *STORES,
+    "examples/stores/nats/REPORT.md",
     "recording/README.md",
     "recording/java/README.md",
     "examples/opensearch/README.md",

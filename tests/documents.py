@@ -22,7 +22,8 @@ from program import TOP
 from program_test import ProgramTest, run_tests
 from running import free_ports, run
 
-STORES = [f"examples/stores/{it}/README.md" for it in ("redis", "postgresql", "zookeeper")]
+STORES = [f"examples/stores/{it}/README.md" for it in ("redis", "postgresql", "zookeeper", "nats", "galera")]
+STORES.append("examples/stores/nats/REPORT.md")
 DOCUMENTS = ["README.md", "examples/README.md", *STORES, "docs/RECORDING.md"]
 
 # The ports that the documents have a stand-in and a proxy listen on; each document gets some of its own.

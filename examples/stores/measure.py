@@ -1,12 +1,14 @@
 #!/usr/bin/env python3
 """Measures what casbench says of many recordings of the stores, and what is true of them by the stores' own logs.
 
-    python3 examples/stores/measure.py FOLDER [--stores redis,etcd] [--recordings 10] [--calls 3000]
+    python3 examples/stores/measure.py FOLDER [STORE ..] [--recordings 10] [--calls 3000] [--keep-all]
 
-FOLDER is made. Two tables are printed, with a row for each fault of a store. The first has how many recordings there are, with the seeds 1
+FOLDER is made. STORE is the name of a folder beside this file, such as redis or etcd; all are measured if none is named. Two tables are
+printed, with a row for each fault of a store. The first has how many recordings there are, with the seeds 1
 and on; how many calls had no answer, the least, the middle and the most of a recording; how many of these took effect by the log; what
 `check --rule-out` answers, and in how many seconds of a processor; and what `verify` says of the witness by the log. The second has
-what README shows of it, folded. A recording is kept there unless it gets `yes` and its witness is valid.
+what README shows of it, folded. A recording is kept there, with the logs of its nodes, unless it gets `yes` and its witness is valid;
+with --keep-all each one is.
 
 The exit status is 1 if a store that keeps its promise was accused, or a recording got `yes` that its log contradicts: what nobody read
 is to be looked for there by hand.
@@ -14,6 +16,7 @@ is to be looked for there by hand.
 
 import argparse
 import pathlib
+import shutil
 import subprocess
 import sys
 from collections import Counter
@@ -66,9 +69,24 @@ ROWS = (
     Row("etcd", "killed", "one or two members are killed, and started again"),
     Row("etcd", "stopped", "the leader is stopped for 0.2 to 1.5 s, and goes on"),
     Row("etcd", "stale", "serializable reads from a member that was stopped", False),
+    Row("nats", "healthy", "nothing"),
+    Row("nats", "bucket-alone", "nothing; a bucket of one replica"),
+    Row("nats", "killed", "a server is killed, the leader every second time, and started again"),
+    Row("nats", "bucket", "nothing; a bucket of three replicas", False),
+    Row("nats", "stopped", "the leader is stopped for 6 to 12 s, and goes on", False),
+    Row("nats", "tails", "two of three servers lose what they hadn't synced", False),
+    Row("nats", "leader-reads", "the leader is stopped, and goes on; gets from leaders", False),
+    Row("nats", "direct", "nothing; direct gets", False),
+    Row("galera", "healthy", "nothing"),
+    Row("galera", "killed", "a node is killed, and started again"),
+    Row("galera", "stopped", "a node is stopped for 0.5 to 5 s, and goes on"),
+    Row("galera", "all-killed", "all nodes are killed, and started again from the one that has most"),
+    Row("galera", "unflushed", "the same, the log of InnoDB not flushed at commits", False),
+    Row("galera", "split", "a split brain: a node that is cut off is made a cluster of its own", False),
+    Row("galera", "unsynced", "nothing; `wsrep_sync_wait` is 0", False),
 )
 
-NAMES = {"redis": "Redis", "postgresql": "PostgreSQL", "zookeeper": "ZooKeeper", "etcd": "etcd"}
+NAMES = {"redis": "Redis", "postgresql": "PostgreSQL", "zookeeper": "ZooKeeper", "etcd": "etcd", "nats": "JetStream", "galera": "Galera"}
 
 TIMED = """
 import resource, subprocess, sys
@@ -103,17 +121,19 @@ def kind_of(line: str) -> str:
 def measured(setting: argparse.Namespace, row: Row, seed: int) -> Measured:
     """Makes a recording, and has it checked."""
     name = f"{row.store}-{row.scenario}-{row.dropped}-{seed}"
-    history, witness = (setting.folder / f"{name}.{it}" for it in ("ndjson", "witness"))
-    words = ["--scenario", row.scenario, "--calls", setting.calls, "--seed", seed, "--dropped", row.dropped, "--witness", witness]
+    history, witness, logs = (setting.folder / f"{name}.{it}" for it in ("ndjson", "witness", "logs"))
+    words = ["--scenario", row.scenario, "--calls", setting.calls, "--seed", seed, "--dropped", row.dropped]
+    words += ["--witness", witness, "--logs", logs]
     printed = PRINTED.fullmatch(printed_by(sys.executable, HERE / row.store / "record.py", history, *words))
     if not printed:
         raise SystemExit(f"{name} was not recorded")
     *answer, seconds = printed_by(sys.executable, "-c", TIMED, setting.program, "check", "--rule-out", history).splitlines()
     by_log = printed_by(setting.program, "verify", history, witness).split()[0]
     found = Measured(history, int(printed[2]), int(printed[3]), kind_of("".join(answer)), float(seconds), by_log)
-    if (found.answer, by_log) == ("yes", "verified"):
+    if (found.answer, by_log) == ("yes", "verified") and not setting.keep_all:
         history.unlink()
         witness.unlink()
+        shutil.rmtree(logs)
     return found
 
 
@@ -173,15 +193,23 @@ def print_heads(heads: Sequence[str]) -> None:
     print("|" + "---|" * len(heads), flush=True)
 
 
+def store_named(name: str) -> str:
+    """The name of a store. Raises ArgumentTypeError if it has no rows."""
+    if name not in NAMES:
+        raise argparse.ArgumentTypeError(f"the stores are {', '.join(NAMES)}, and not {name!r}")
+    return name
+
+
 def words_of(arguments: Sequence[str]) -> argparse.Namespace:
     """Reads the words of the command."""
     parser = argparse.ArgumentParser(description=__doc__.splitlines()[0])
     add = parser.add_argument
     add("folder", type=pathlib.Path)
-    add("--stores", default=",".join(NAMES))
+    add("stores", nargs="*", type=store_named, metavar="STORE")
     add("--recordings", type=int, default=10)
     add("--calls", type=int, default=3000)
     add("--at-once", type=int, default=2)
+    add("--keep-all", action="store_true")
     add("--program", default=str(HERE.parents[1] / "casbench"))
     return parser.parse_args(arguments)
 
@@ -193,7 +221,7 @@ def main() -> int:
     faults: List[str] = []
     print_heads(FULL_HEADS)
     with ThreadPoolExecutor(setting.at_once) as pool:
-        for row in (it for it in ROWS if it.store in setting.stores.split(",")):
+        for row in (it for it in ROWS if it.store in (setting.stores or NAMES)):
             found = list(pool.map(lambda seed: measured(setting, row, seed), range(1, setting.recordings + 1)))
             print(full_line(row, found), flush=True)
             lines.append(short_line(row, found))

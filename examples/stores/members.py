@@ -23,6 +23,8 @@ class Members(abc.ABC):
     """The members. A majority of them answers."""
 
     calls_between = 600
+    # whether all documents are read once more after the load
+    reads_at_last = False
     # what may come of asking a member that leads no longer
     faults: Tuple[Type[Exception], ...] = (OSError, Unreachable)
 
@@ -86,7 +88,10 @@ class Members(abc.ABC):
 
     def run(self, disturb: Callable[[], None] = lambda: None) -> Changes:
         """Runs the clients; returns the store's log."""
-        self.recording.run(self.store(), disturb, self.calls_between)
+        store = self.store()
+        self.recording.run(store, disturb, self.calls_between)
+        if self.reads_at_last:
+            self.recording.read_at_last(store)
         return self.asked_of_leader(self.changes_at)
 
     # Scenarios
