@@ -153,16 +153,20 @@ class Objects(ProgramTest):
         if not ANSWERS.match(text):
             self.assertEqual(out, text)
             return
-        line, explanation = text[: text.index("\n") + 1], text[text.index("\n") + 1 :]
+        line, rest = text[: text.index("\n") + 1], text[text.index("\n") + 1 :]
         files = {"file": "history" if named else "-"}
         if is_explained:
-            files["explanation"] = explanation
+            files["explanation"] = rest
+        elif rest:
+            # A certificate follows the object as it follows the line.
+            self.assertTrue(out.endswith(f"\n{rest}"), out)
+            out = out.removesuffix(rest)
         if arguments[:1] == ["verify"]:
             files["witness"] = "witness"
         self.check_object(out, line, texts["history"].decode(errors="replace"), files, reading_of(arguments))
 
     def test_cases(self):
-        """The object of each case has the members of its line; a witness is written as without."""
+        """The object of each case has the members of its line; a witness and a certificate are written as without."""
         rows = []
         for name, texts in all_cases().items():
             arguments = texts["args"].decode().split("\n")[:-1]

@@ -600,8 +600,8 @@ RULED_OUT = [
         (7, 3, 3),
         [
             "\nNo write without a reply can have done it:\n"
-            f"  line 5, call 2: delete if at {GREATEST[0]}/{GREATEST[1]} -> no reply: no write would help\n"
-            "  line 3, call 1: delete -> no reply: no write would help\nSo no order ",
+            f"  line 5, call 2: delete if at {GREATEST[0]}/{GREATEST[1]} -> no reply: it can't have been performed where that is needed\n"
+            "  line 3, call 1: delete -> no reply: it can't have been performed where that is needed\nSo no order ",
         ],
         {},
     ),
@@ -685,7 +685,7 @@ RULED_OUT = [
         create(0) + conflict(0),
         (1, 0, 0),
         [
-            "So something must have written the document before line 2. But no reply shows that anything did.\n"
+            "So something must have written the document before line 2. But no write can have done so by then.\n"
             "The document has no write without a reply that could have done it.\nSo no order ",
         ],
         {},

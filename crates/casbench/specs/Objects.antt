@@ -7,7 +7,7 @@ use Rattle.readings.specs.declared.reading.Reading.{Reading}
 use Rattle.evidence.specs.declared.ruling_out.RulingOut.{RulingOut}
 use Rattle.report.specs.Details.{IsProvedOf}
 use Rattle.report.specs.Explained.{ExplainsInput}
-use Rattle.report.specs.Verdict.{AnswersInput, IsVerifyAnswer, IsWitnessAnswer, VerifiesInputs, WitnessesInput}
+use Rattle.report.specs.Verdict.{AnswersInput, IsAnswer, IsFollowed, IsVerifyAnswer, IsWitnessAnswer, VerifiesInputs, WitnessesInput}
 use Rattle.result_lines.specs.Objects.{line_of, object_text}
 use Rattle.result_lines.specs.declared.facts.Facts.{Facts}
 use Rattle.result_lines.specs.declared.reported.Reported.{Reported}
@@ -30,14 +30,19 @@ pub record IsObjectOn (reading : Reading) (file : List ℕ) (input : Option (Lis
   pub by_reading : IsNamedReading reading facts.reading
   pub written : text ≡ object_text reported facts
 
--- what is written if a witness is asked for: the text of one if the status is Yes; else the object of the line of a
--- check, of the history of this file (`IsWitnessAnswer`, `IsObjectOn`)
+-- the object of the line of a check, of the history of this file (`IsAnswer`, `IsObjectOn`)
+-- Source: profile.
+abbrev pub IsObjectOfAnswer : List ℕ → RulingOut → Reading → List ℕ → Status → List ℕ → Type 0
+IsObjectOfAnswer file ruling reading input status text = (line : List ℕ) × IsAnswer ruling reading input status line × IsObjectOn reading file (Some input) line text
+
+-- what is written if a witness is asked for: the text of one if the status is Yes (`IsWitnessAnswer`); else the object of
+-- the line of a check, after which a certificate may follow if the history is refuted, of which nothing is said
 -- Source: profile.
 abbrev pub IsWitnessInJson : List ℕ → RulingOut → Reading → List ℕ → Status → List ℕ → Type 0
 IsWitnessInJson file ruling reading input Yes text = IsWitnessAnswer ruling reading input Yes text
-IsWitnessInJson file ruling reading input No text = (line : List ℕ) × IsWitnessAnswer ruling reading input No line × IsObjectOn reading file (Some input) line text
-IsWitnessInJson file ruling reading input Refuted text = (line : List ℕ) × IsWitnessAnswer ruling reading input Refuted line × IsObjectOn reading file (Some input) line text
-IsWitnessInJson file ruling reading input Refused text = (line : List ℕ) × IsWitnessAnswer ruling reading input Refused line × IsObjectOn reading file (Some input) line text
+IsWitnessInJson file ruling reading input No text = IsObjectOfAnswer file ruling reading input No text
+IsWitnessInJson file ruling reading input Refuted text = IsFollowed (IsObjectOfAnswer file ruling reading input Refuted) text
+IsWitnessInJson file ruling reading input Refused text = IsObjectOfAnswer file ruling reading input Refused text
 
 -- the same for the bytes that the reader had, if they are known
 abbrev pub WitnessesInJson : List ℕ → RulingOut → Reading → Option (List ℕ) → Status → List ℕ → Type 0

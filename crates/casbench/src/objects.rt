@@ -54,7 +54,8 @@ pub fn details_object<'a>(
     object_line(alloc, &details.reported, &facts)
 }
 
-// Returns the text that is written of a witness, or the object of what was found in its place.
+// Returns the text that is written of a witness, or the object of what was found in its place, with the certificate
+// after it.
 fn witnessed_answer(
     alloc: Global,
     name: &str,
@@ -71,9 +72,10 @@ fn witnessed_answer(
             status: Status::Yes,
             text,
         }),
-        Witnessed::Answered(details) => {
+        Witnessed::Answered(details, certificate) => {
             let status = status_of(&details.reported);
-            let text = details_object(alloc, name, details, reading, None, milliseconds)?;
+            let mut text = details_object(alloc, name, details, reading, None, milliseconds)?;
+            text.extend_from_slice(&certificate)?;
             Ok(AnswerText { status, text })
         }
     }

@@ -4,6 +4,7 @@ ghost use Rattle.covers.specs.Covers.{HasNoUnpairedCover};
 ghost use Rattle.compose.specs.Verdicts.{HasNoOrderFound};
 ghost use Rattle.evidence.specs.Evidence.{AreDocuments};
 
+use covers::NotCovered;
 use doc_register::Conflicts;
 use events::History;
 use std::marker::Model;
@@ -20,8 +21,8 @@ pub struct Case {
     conflicts: Conflicts,
     // The documents for which no order was found at first.
     unordered: Vec<usize>,
-    // The position of the reply with which the numbers seem to become too few, if that is why.
-    short_at: Option<usize>,
+    // Why they have no orders that together explain the history, if numbers are too few.
+    why: NotCovered,
 }
 
 impl Model for Case {
@@ -45,7 +46,7 @@ impl Case {
         history: History,
         conflicts: Conflicts,
         unordered: Vec<usize>,
-        short_at: Option<usize>,
+        why: NotCovered,
     ) -> Case
         requires history { IsHistory history }
         requires uncovered { HasNoUnpairedCover conflicts history }
@@ -56,7 +57,7 @@ impl Case {
             history,
             conflicts,
             unordered,
-            short_at,
+            why,
         }
     }
 
@@ -86,7 +87,13 @@ impl Case {
     // Returns the position of the reply with which the numbers seem to become too few, if that is why no
     // order was found: a guess.
     pub(crate) fn short_at(&self) -> Option<usize> {
-        self.short_at
+        self.why.short_at
+    }
+
+    // Returns the numbers of the documents that need more numbers than are free, if that is why no order was found: a
+    // guess.
+    pub(crate) fn scarce(&self) -> &[usize] {
+        &self.why.scarce
     }
 
     /// Returns how a conflict is read.

@@ -139,7 +139,7 @@ fn certainty_without_evidence(
 }
 
 /// Returns how much the answer says of the history of the case, by the evidence that was found, if any was,
-/// and the offence. Lost writes may have been performed so often.
+/// and the offence. `attempts` states how often a lost write may have been performed.
 #[tactic(auto, using(crate::proofs::CertaintyLemmas::said_is_proved))]
 pub fn certainty_of(
     alloc: Global,

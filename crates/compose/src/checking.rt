@@ -67,7 +67,7 @@ pub fn search_outcome(
     let answers = answers_found(alloc, history, conflicts)?;
     match cover_answers(alloc, history, answers) {
         Ok(Covering::Found(_)) => Ok(SearchOutcome::Found),
-        Ok(Covering::NotFound(place)) => Ok(SearchOutcome::NotFound(place)),
+        Ok(Covering::NotFound(why)) => Ok(SearchOutcome::NotFound(why.short_at)),
         Err(refused) => Err(refused),
     }
 }
@@ -125,8 +125,8 @@ fn verdict_of(
         Ok(Covering::Found(witnesses)) => {
             Ok(Verdict::Yes(Proof::of(history, witnesses, conflicts)))
         }
-        Ok(Covering::NotFound(place)) => {
-            Ok(Verdict::No(Case::of(history, conflicts, unordered, place)))
+        Ok(Covering::NotFound(why)) => {
+            Ok(Verdict::No(Case::of(history, conflicts, unordered, why)))
         }
         Err(_) => Err(CheckFault::NoMemory(history)),
     }

@@ -11,4 +11,4 @@ use Rattle.covers.specs.Answered.{IsCovered}
 pub covered_first : (conflicts : Conflicts) (events : List Event) (first : Bool) (found : Covering) → (first ≡ true → HasNoUnpairedCover conflicts events) → IsCovered conflicts events false found
     → IsCovered conflicts events first found
 covered_first conflicts events first (Found ws) none is = is
-covered_first conflicts events first (NotFound place) none is = none
+covered_first conflicts events first (NotFound why) none is = none

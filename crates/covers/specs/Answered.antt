@@ -26,4 +26,4 @@ AreAnswersFor conflicts events first (d ∷ ds) (x ∷ xs) = IsAnswerFor conflic
 -- search gave, no entries without a given pair cover it.
 abbrev pub IsCovered : Conflicts → List Event → Bool → Covering → Type 0
 IsCovered conflicts events first (Found ws) = AreWitnesses conflicts events ws.items
-IsCovered conflicts events first (NotFound place) = first ≡ true → HasNoUnpairedCover conflicts events
+IsCovered conflicts events first (NotFound why) = first ≡ true → HasNoUnpairedCover conflicts events

@@ -19,9 +19,27 @@ use version_pair::NoMemory;
 pub enum Covering {
     /// They are found: witnesses that cover it.
     Found(Vec<DocWitness>),
-    /// They aren't found. If that is because numbers are too few, the position of the reply with which they
-    /// seem to become so.
-    NotFound(Option<usize>),
+    /// They aren't found.
+    NotFound(NotCovered),
+}
+
+/// Why no orders are found that together explain a history, if that is because numbers are too few.
+#[derive(Debug, Drop)]
+pub struct NotCovered {
+    /// The position of the reply with which they seem to become so.
+    pub short_at: Option<usize>,
+    /// The numbers of the documents that need more than are free, rising.
+    pub scarce: Vec<usize>,
+}
+
+impl NotCovered {
+    /// Returns that it isn't because of that, or isn't known to be.
+    pub fn otherwise(alloc: Global) -> NotCovered {
+        NotCovered {
+            short_at: None,
+            scarce: Vec::new(alloc),
+        }
+    }
 }
 
 // Takes a second and a third look, if the documents want more numbers than are free.
@@ -47,7 +65,7 @@ fn cover_scarce(
         Joined::Short(others, shortage) => {
             cover_with_fewer(alloc, history, others, shortage, known, furthest)
         }
-        Joined::Spent => Ok(Covering::NotFound(None)),
+        Joined::Spent => Ok(Covering::NotFound(NotCovered::otherwise(alloc))),
     }
 }
 
@@ -71,7 +89,7 @@ fn cover_witnesses(
     match renumbered(alloc, history, witnesses, gaps, &used)? {
         Joined::Cover(others) => Ok(Covering::Found(others)),
         Joined::Short(again, shortage) => { cover_scarce(alloc, history, again, shortage, &used) }
-        Joined::Spent => Ok(Covering::NotFound(None)),
+        Joined::Spent => Ok(Covering::NotFound(NotCovered::otherwise(alloc))),
     }
 }
 
@@ -92,11 +110,11 @@ pub fn cover_answers(
     if has_lost(&answers) {
         return match orders_again(alloc, history, answers)? {
             Some(witnesses) => cover_witnesses(alloc, history, witnesses),
-            None => Ok(Covering::NotFound(None)),
+            None => Ok(Covering::NotFound(NotCovered::otherwise(alloc))),
         };
     }
     match witnesses_of(alloc, answers)? {
         Some(witnesses) => cover_witnesses(alloc, history, witnesses),
-        None => Ok(Covering::NotFound(None)),
+        None => Ok(Covering::NotFound(NotCovered::otherwise(alloc))),
     }
 }

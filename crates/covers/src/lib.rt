@@ -5,7 +5,7 @@
 //! ```text
 //! match cover_answers(alloc, &history.whole(), answers)? {
 //!     Covering::Found(witnesses) => {} // witnesses that cover the history
-//!     Covering::NotFound(place) => {} // place: the reply with which the numbers seem to become too few
+//!     Covering::NotFound(why) => {} // why.short_at: the reply with which the numbers seem to become too few
 //! }
 //! ```
 #![tactic(auto)]
@@ -19,4 +19,4 @@ mod reordered;
 mod second_look;
 mod third_look;
 
-pub use covering::{Covering, cover_answers};
+pub use covering::{Covering, NotCovered, cover_answers};

@@ -4,7 +4,7 @@ ghost use Rattle.events.specs.Events.{documents_of};
 ghost use Rattle.covers.specs.Answered.{IsCovered};
 ghost use Rattle.covers.specs.aids.Searched.{AreSearched};
 
-use crate::covering::Covering;
+use crate::covering::{Covering, NotCovered};
 use crate::doc_limits::DocLimits;
 use crate::joined::{Joined, joined_again};
 use crate::nearby::{Nearby, PartSearch};
@@ -172,8 +172,9 @@ impl<'a> Scene<'a, '_> {
 
 /// Takes a third look, if the documents want more numbers than are free: as long as there are too few for
 /// some gaps, one of their documents gets another order near such a gap, with one number fewer. Returns
-/// witnesses that cover the history, if the numbers suffice in the end; else a guess at the reply with which
-/// they become too few, which is not before `furthest`, the latest one at which the second look was stuck.
+/// witnesses that cover the history, if the numbers suffice in the end; else the documents that need more than are
+/// free, and a guess at the reply with which they do, which is not before `furthest`, the latest one at which the second
+/// look was stuck.
 pub fn cover_with_fewer<'x>(
     alloc: Global,
     history: &'x Front<'_>,
@@ -202,7 +203,7 @@ pub fn cover_with_fewer<'x>(
         limits.note(found.doc, found.limit)?;
         let new = NewPlaces::Of(found.doc, &found.places);
         let Some(others) = with_new_places(alloc, witnesses, new)? else {
-            return Ok(Covering::NotFound(None));
+            return Ok(Covering::NotFound(NotCovered::otherwise(alloc)));
         };
         match joined_again(alloc, history, others, known.used)? {
             Joined::Cover(others) => return Ok(Covering::Found(others)),
@@ -210,7 +211,7 @@ pub fn cover_with_fewer<'x>(
                 witnesses = again;
                 shortage = more;
             }
-            Joined::Spent => return Ok(Covering::NotFound(None)),
+            Joined::Spent => return Ok(Covering::NotFound(NotCovered::otherwise(alloc))),
         }
     }
     let scene = Scene {
@@ -220,5 +221,8 @@ pub fn cover_with_fewer<'x>(
         known,
     };
     let guessed = scene.short_at(alloc, &shortage)?;
-    Ok(Covering::NotFound(guessed.max(furthest)))
+    Ok(Covering::NotFound(NotCovered {
+        short_at: guessed.max(furthest),
+        scarce: shortage.witnesses(alloc)?,
+    }))
 }

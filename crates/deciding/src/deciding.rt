@@ -8,9 +8,7 @@ use crate::attempts::Attempts;
 use crate::budget::Budget;
 use crate::document::Document;
 use crate::elsewhere::Elsewhere;
-use crate::versions::Versions;
 use crate::walk::{Walk, first_without_row};
-use crate::writes::Writes;
 use doc_register::Conflicts;
 use events::Rec;
 use std::alloc::Global;
@@ -35,16 +33,7 @@ pub fn ruled_out_at(
     ensures { IfOk result (λ found. IfSome found (IsRuledOut (record { conflicts = conflicts; elsewhere = is_kept elsewhere.now.ends }) records.now)) }
 {
     let answers = answers_of(alloc, records)?;
-    let versions = Versions::of(alloc, records)?;
-    let writes = Writes::of(alloc, records, &versions.known)?;
-    let document = Document {
-        records,
-        conflicts,
-        elsewhere,
-        attempts,
-        versions,
-        writes,
-    };
+    let document = Document::of(alloc, records, conflicts, elsewhere, attempts)?;
     let mut walk = Walk::start(alloc, budget.limit(records.len()))?;
     let found = first_without_row(&mut walk, &document, &answers)?;
     budget.keep(walk.left);

@@ -2,6 +2,8 @@ ghost use Rattle.std.specs.Prelude.{◌≡◌, ◌++◌, IfOk, OnOk, ℕ};
 ghost use Rattle.std.specs.Option.{option_to_list};
 ghost use Rattle.deciding.specs.aids.Candidates.{AreCandidates, AreIn, AreLostIn, AreOpen, IsDocument, facts_of, numbers_in};
 ghost use Rattle.deciding.specs.aids.Rows.{IsPositioned, branch_of};
+ghost use Rattle.deciding.specs.Elsewhere.{is_kept};
+ghost use Rattle.deciding.specs.Records.{AreInOrder};
 
 use crate::attempts::Attempts;
 use crate::elsewhere::Elsewhere;
@@ -44,6 +46,32 @@ fn push_first(numbers: &mut Vec<usize>, first: Option<usize>) -> Result<(), NoMe
         numbers.push(number)?;
     }
     Ok(())
+}
+
+impl<'a> Document<'a> {
+    /// Returns the document of these records.
+    pub fn of(
+        alloc: Global,
+        records: &'a [Rec],
+        conflicts: Conflicts,
+        elsewhere: &'a Elsewhere,
+        attempts: Attempts,
+    ) -> Result<Document<'a>, NoMemory>
+        ensures document { IfOk result (λ document. AreInOrder records.now → IsDocument document) }
+        ensures facts { IfOk result (λ document. facts_of document ≡ record { conflicts = conflicts; elsewhere = is_kept elsewhere.now.ends }) }
+        ensures records { IfOk result (λ document. document.records.now ≡ records.now) }
+    {
+        let versions = Versions::of(alloc, records)?;
+        let writes = Writes::of(alloc, records, &versions.known)?;
+        Ok(Document {
+            records,
+            conflicts,
+            elsewhere,
+            attempts,
+            versions,
+            writes,
+        })
+    }
 }
 
 impl Document<'_> {

@@ -49,8 +49,8 @@ impl Document<'_> {
         Ok(())
     }
 
-    // The least pair above the lower one that is neither known nor elsewhere, unless a known pair is below it.
-    fn free_above(&self, lower: Option<Pair>) -> Option<Pair>
+    /// Returns the least pair above the lower one that is neither known nor elsewhere, unless a known pair is below it.
+    pub fn free_above(&self, lower: Option<Pair>) -> Option<Pair>
         ensures { IsDocument self.now → IsFreeAbove (facts_of self.now) self.now.records.now lower result }
     {
         let free = self.elsewhere.free_from(least_above(lower)?)?;

@@ -22,7 +22,7 @@ use crate::numbers::{with_some, without};
 use crate::row::Row;
 use crate::served::{is_hidden, is_owed, is_past};
 use crate::tables::{ReplyTables, add_row};
-use doc_register::Reply;
+use doc_register::{Conflicts, Reply};
 use events::Rec;
 use std::alloc::Global;
 use version_pair::NoMemory;
@@ -96,8 +96,8 @@ fn push_owing(
     Ok(())
 }
 
-// Whether a row stays as it is if the call is made.
-fn leaves_rows(call: Rec) -> bool
+/// Returns whether each row stays as it is if the call is made.
+pub fn leaves_rows(call: Rec) -> bool
     ensures { IsTrue result → is_owed call ≡ false }
 {
     match call.heard {
@@ -133,6 +133,8 @@ pub struct Walk {
     open: Vec<usize>,
     // How many writes without a reply and without a condition were made.
     made: Made,
+    /// The rows that waited at the last reply.
+    pub waited: Vec<Row>,
     /// The number of rows of which steps may yet be made.
     pub left: usize,
 }
@@ -152,8 +154,13 @@ impl Walk {
         Ok(())
     }
 
-    // A call of the document is made: the one of this number.
-    fn make(&mut self, document: &Document<'_>, number: usize, call: Rec) -> Result<(), NoMemory>
+    /// A call of the document is made: the one of this number.
+    pub fn make(
+        &mut self,
+        document: &Document<'_>,
+        number: usize,
+        call: Rec,
+    ) -> Result<(), NoMemory>
         ensures ok { OnOk result (IsDocument document.now → (event : ℕ) → slice_get document.now.records.now number ≡ Just call → call.call_at ≡ event
             → IsWalkAt document.now event self.old → IsWalkAt document.now (suc event) self.new) }
     {
@@ -165,9 +172,9 @@ impl Walk {
         Ok(())
     }
 
-    // The call of this number is answered at the event. Returns whether the walk went on: it ends if it has made too many
-    // steps.
-    fn answer(
+    /// The call of this number is answered at the event. Returns whether the walk went on: it ends if it has made too many
+    /// steps.
+    pub fn answer(
         &mut self,
         document: &Document<'_>,
         event: usize,
@@ -189,6 +196,7 @@ impl Walk {
         self.left = self.left.saturating_sub(tables.waiting.len());
         self.front = settled_rows(alloc, &tables.served, number)?;
         self.open = without(alloc, number, &self.open)?;
+        self.waited = tables.waiting;
         Ok(closed)
     }
 
@@ -225,8 +233,50 @@ impl Walk {
                 deletes: 0,
                 makes: 0,
             },
+            waited: Vec::new(alloc),
             left: limit,
         })
+    }
+
+    /// Returns the walk right before the event, at which the document may be any of these rows, that may make steps of so
+    /// many rows.
+    pub fn resumed(
+        alloc: Global,
+        document: &Document<'_>,
+        event: usize,
+        front: Vec<Row>,
+        limit: usize,
+    ) -> Result<Walk, NoMemory> {
+        let mut open = Vec::new(alloc);
+        let mut made = Made {
+            deletes: 0,
+            makes: 0,
+        };
+        for number in 0..document.records.len() {
+            let call = document.records[number];
+            if call.call_at >= event {
+                break;
+            }
+            made = made.with(call, document.records.len());
+            if is_open_conflict(document.conflicts, call, event) {
+                open.push(number)?;
+            }
+        }
+        Ok(Walk {
+            front,
+            open,
+            made,
+            waited: Vec::new(alloc),
+            left: limit,
+        })
+    }
+}
+
+// Whether the call is a conflict that may hide a write and that is not answered before the event.
+fn is_open_conflict(conflicts: Conflicts, call: Rec, event: usize) -> bool {
+    match call.heard {
+        Some(heard) => event <= heard.0 && is_hidden(conflicts, call.heard),
+        None => false,
     }
 }
 

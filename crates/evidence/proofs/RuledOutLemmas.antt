@@ -1,6 +1,6 @@
 -- Documents that are ruled out, by their numbers.
 use Rattle.std.proofs.Common.{ℕ, ◌≡◌, List, refl, sym, subst, ◌∙◌, Bool, true≢false, Option, Some, None, option_map, slice_get}
-use Rattle.std.specs.Prelude.{IfSome, IsTrue, is_some}
+use Rattle.std.specs.Prelude.{IfOk, IfSome, IsTrue, Result, Ok, Err, is_some}
 use Rattle.doc_register.specs.declared.state.Conflicts.{Conflicts}
 use Rattle.events.specs.declared.event.Event.{Event}
 use Rattle.events.specs.declared.record.Rec.{Rec}
@@ -8,12 +8,10 @@ use Rattle.events.specs.Events.{IsHistory, documents_of, records_of}
 use Rattle.version_pair.proofs.ListLemmas.{none_is_not_some, same_some}
 use Rattle.deciding.specs.Records.{AreInOrder}
 use Rattle.version_pair.specs.declared.pair.Pair.{Pair}
-use Rattle.std.proofs.Common.{true}
-use Rattle.deciding.specs.Laws.{IsElsewhere}
 use Rattle.deciding.specs.Tables.{IsRuledOut}
 use Rattle.deciding.proofs.RecordOrder.{records_in_order}
 use Rattle.evidence.specs.Evidence.{IsDocumentRuledOut}
-use Rattle.evidence.specs.aids.RuledOutCalls.{IsRuledOutDocument}
+use Rattle.evidence.specs.aids.RuledOutCalls.{AreElsewhere, AreJudgedOf, IsRuledOutDocument}
 
 -- the records of the document of a number
 pub record HasRecords (events : List Event) (doc : ℕ) (records : List Rec) : Type 0 where
@@ -35,10 +33,6 @@ records_ready events doc records history is =
     let x = document_there events doc records is in
     subst AreInOrder x.same (records_in_order events x.document.0 history)
 
--- the pairs are known of other documents of the shard
-abbrev pub AreElsewhere : List Event → ℕ → (Pair → Bool) → Type 0
-AreElsewhere events doc elsewhere = (q : Pair) → elsewhere q ≡ true → (d : List ℕ × ℕ) → slice_get (documents_of events) doc ≡ Some d → IsElsewhere events d.0 q
-
 -- if its records are ruled out, it is
 pub found_call : (conflicts : Conflicts) (events : List Event) (doc n : ℕ) (records : List Rec) (elsewhere : Pair → Bool)
     → option_map (λ (d : List ℕ × ℕ). records_of events d.0) (slice_get (documents_of events) doc) ≡ Some records → AreElsewhere events doc elsewhere
@@ -57,14 +51,19 @@ found_call conflicts events doc n records elsewhere is others ruled =
     )
 
 pub found_document : (conflicts : Conflicts) (events : List Event) (doc : ℕ) (records : List Rec) (elsewhere : Pair → Bool) (found : Option ℕ)
-    → option_map (λ (d : List ℕ × ℕ). records_of events d.0) (slice_get (documents_of events) doc) ≡ Some records → AreElsewhere events doc elsewhere
-    → IfSome found (IsRuledOut (record { conflicts = conflicts; elsewhere = elsewhere }) records) → IfSome found (IsRuledOutDocument conflicts events doc)
+    → AreJudgedOf events doc records elsewhere → IfSome found (IsRuledOut (record { conflicts = conflicts; elsewhere = elsewhere }) records) → IfSome found (IsRuledOutDocument conflicts events doc)
 unfolding found_call
-found_document conflicts events doc records elsewhere None is others ruled = tt
-found_document conflicts events doc records elsewhere (Some n) is others ruled = found_call conflicts events doc n records elsewhere is others ruled
+found_document conflicts events doc records elsewhere None judged ruled = tt
+found_document conflicts events doc records elsewhere (Some n) judged ruled = found_call conflicts events doc n records elsewhere judged.are judged.others ruled
 
 -- a document is ruled out if a call was found at which it is
 pub ruled_out_if_found : (conflicts : Conflicts) (events : List Event) (doc : ℕ) (found : Option ℕ) (said : Bool) → said ≡ is_some found
     → IfSome found (IsRuledOutDocument conflicts events doc) → IsTrue said → IsDocumentRuledOut conflicts events doc
 ruled_out_if_found conflicts events doc None said is none said_so = absurd (true≢false (sym said_so ∙ is))
 ruled_out_if_found conflicts events doc (Some n) said is some said_so = (n, some.0, some.1)
+
+-- what holds holds of whatever is made
+pub made_if_found : {A E : Type 0} {P : Type 0} (made : Result (Option A) E) → P → IfOk made (λ found. IfSome found (λ _. P))
+made_if_found (Ok (Some x)) is = is
+made_if_found (Ok None) is = tt
+made_if_found (Err e) is = tt

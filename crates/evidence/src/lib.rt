@@ -18,10 +18,13 @@ mod ruled_out_calls;
 mod ruling_out;
 mod search;
 
+pub use allowance::Allowance;
 pub use certainty::Certainty;
-pub use deciding::Attempts;
+pub use deciding::{
+    Attempts, Contradiction, Row, Stage, Table, TableEvent, least_above, shown_pairs,
+};
 pub use holding::refutes;
 pub use refuted::Refuted;
-pub use ruled_out_calls::{Rulings, is_document_ruled_out};
+pub use ruled_out_calls::{RuledOutDocument, Rulings, contradiction_of, is_document_ruled_out};
 pub use ruling_out::RulingOut;
 pub use search::{find_evidence, rule_out};

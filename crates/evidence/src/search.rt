@@ -83,8 +83,8 @@ pub fn find_evidence(
 }
 
 /// Returns evidence that a document of the history is provably not linearizable, in this reading of
-/// conflicts, if its lost writes were performed so often: the least call at which one is found to be. Only the
-/// documents of these numbers are checked. `None` says nothing.
+/// conflicts: the least call at which one is found to be. Only the documents of these numbers are checked. `attempts`
+/// states how often a lost write may have been performed. `None` says nothing.
 pub fn rule_out(
     alloc: Global,
     history: &History,

@@ -1,5 +1,5 @@
 -- What the lines and texts that are written say of the inputs.
-use Rattle.std.proofs.Common.{ℕ, suc, ◌≡◌, ◌≢◌, ◌+◌, ◌-◌, ◌≤◌, None, List, ap, map, refl, sym, subst, ◌∙◌, Option, Some, Ok, Err, inl, inr, codes, Vec, Global, Bool, true, length, unwrap_or, ◌⊎◌}
+use Rattle.std.proofs.Common.{◌++◌, ℕ, suc, ◌≡◌, ◌≢◌, ◌+◌, ◌-◌, ◌≤◌, None, List, ap, map, refl, sym, subst, ◌∙◌, Option, Some, Ok, Err, inl, inr, codes, Vec, Global, Bool, true, length, unwrap_or, ◌⊎◌}
 use Rattle.std.specs.Prelude.{IfOk, IfSome, IsTrue, Result, ◌↔◌}
 use Rattle.std.specs.declared.alloc.AllocError.{AllocError}
 use Rattle.doc_register.specs.declared.state.Conflicts.{Conflicts}
@@ -47,6 +47,8 @@ use Rattle.report.specs.aids.Earlier.{IsEarlier, grounds, grounds_by}
 use Rattle.report.specs.aids.Reports.{CountsText, IsProvedFor, IsReportOn}
 use Rattle.report.specs.declared.earlier.Earlier.{Earlier}
 use Rattle.report.specs.Verdict.{AnswersInput, HasGetsExplained, IsAnswer, IsExplainedWith, IsOfGet, IsOfJudged, IsReadBy, IsRefutedBy, IsUndecided, IsUnexplained, IsVerified, IsWitnessAnswer, Says, get_offence, judged, offence_in_text, own_numbers}
+use Rattle.report.specs.Witnessed.{MayFollow}
+use Rattle.stream_io.proofs.WrittenLemmas.{nothing_follows}
 use Rattle.report.proofs.OwnCalls.{own_calls}
 
 -- ---- from what was read to the bytes
@@ -62,12 +64,13 @@ is_answer ruling reading input read No line by says = (read, by, says)
 is_answer ruling reading input read Refuted line by says = (read, by, says)
 is_answer ruling reading input read Refused line by says = absurd says
 
-pub is_witness_answer : (ruling : RulingOut) (reading : Reading) (input : List ℕ) (read : TextRead) (status : Status) (line : List ℕ) → IsReadBy reading input read
-    → status ≢ Yes → Says ruling reading read status line → IsWitnessAnswer ruling reading input status line
-is_witness_answer ruling reading input read Yes line by other says = absurd (other refl)
-is_witness_answer ruling reading input read No line by other says = (read, by, says)
-is_witness_answer ruling reading input read Refuted line by other says = (read, by, says)
-is_witness_answer ruling reading input read Refused line by other says = absurd says
+-- a line that is not yes, with a certificate after it if it says that the history is refuted
+pub is_witness_answer : (ruling : RulingOut) (reading : Reading) (input : List ℕ) (status : Status) (line certificate : List ℕ) → status ≢ Yes
+    → MayFollow status certificate → IsAnswer ruling reading input status line → IsWitnessAnswer ruling reading input status (line ++ certificate)
+is_witness_answer ruling reading input Yes line certificate other none is = absurd (other refl)
+is_witness_answer ruling reading input No line certificate other none is = subst (IsAnswer ruling reading input No) (sym (nothing_follows line certificate none)) is
+is_witness_answer ruling reading input Refuted line certificate other none is = (line, certificate, refl, is)
+is_witness_answer ruling reading input Refused line certificate other none is = subst (IsAnswer ruling reading input Refused) (sym (nothing_follows line certificate none)) is
 
 pub is_proved : (reading : Reading) (input : List ℕ) (read : TextRead) (said : Reported) (proved : Option Bool) → IsReadBy reading input read
     → IsProvedFor reading read said proved → IsProvedOf reading input said proved

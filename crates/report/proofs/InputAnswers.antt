@@ -1,5 +1,5 @@
 -- What is made of a text that was read answers the bytes of the reader.
-use Rattle.std.proofs.Common.{ℕ, ◌≡◌, ◌≢◌, List, refl, sym, Option, None, Some, Ok, Err, subst}
+use Rattle.std.proofs.Common.{Vec, Global, ℕ, ◌≡◌, ◌≢◌, List, [], refl, sym, Option, None, Some, Ok, Err, subst}
 use Rattle.std.specs.Prelude.{IfErr, IfOk, IfSome, MatchResult, Result}
 use Rattle.std.specs.declared.alloc.AllocError.{AllocError}
 use Rattle.api_lines.specs.declared.text_fault.TextFault.{TextFault}
@@ -27,14 +27,14 @@ use Rattle.stream_io.specs.declared.stream_fault.StreamFault.{StreamFault}
 use Rattle.stream_io.specs.declared.stream_fault.StreamFault.TheVariants as fault
 use Rattle.report.specs.Calls.{CountsCalls}
 use Rattle.report.specs.Details.{IsProvedOf, calls_reported, status_of}
-use Rattle.report.specs.Verdict.{AnswersInput, IsWitnessAnswer}
-use Rattle.report.specs.Witnessed.{WitnessesBy}
+use Rattle.report.specs.Verdict.{AnswersInput, IsAnswer}
+use Rattle.report.specs.Witnessed.{MayFollow, WitnessesBy}
 use Rattle.report.specs.Workers.{HasDocument, NamesDocument, NamesOwnDocument}
 use Rattle.report.specs.aids.Reports.{IsReportOn, IsWitnessedOf}
 use Rattle.report.specs.declared.details.Details.{Details}
 use Rattle.report.specs.declared.witnessed.Witnessed.{Witnessed}
 use Rattle.report.specs.declared.witnessed.Witnessed.TheVariants.{Text, Answered}
-use Rattle.report.proofs.AnswerLemmas.{if_read, refusal_answers, is_proved, is_witness_answer, report_answers, report_counts, report_proves}
+use Rattle.report.proofs.AnswerLemmas.{if_read, refusal_answers, is_answer, is_proved, report_answers, report_counts, report_proves}
 
 -- the text of the reader was read so
 abbrev pub IsReadAs : Reading → Option (List ℕ) → TextRead → Type 0
@@ -79,11 +79,12 @@ made_names reading read input (Err e) laws is has = names_document reading read 
 pub witnesses : (ruling : RulingOut) (reading : Reading) (read : TextRead) (input : Option (List ℕ)) (found : Witnessed) → TextsAreReadByRules → IsReadAs reading input read
     → IsWitnessedOf ruling reading read found → WitnessesBy ruling reading input found
 witnesses ruling reading read input (Text text) laws is of = if_read reading read input laws is (λ bytes by. (read, by, of))
-witnesses ruling reading read input (Answered details) laws is of =
+witnesses ruling reading read input (Answered details certificate) laws is of =
     if_read reading read input laws is (λ bytes by. (
       of.0,
-      is_witness_answer ruling reading bytes read (status_of details.reported) (line_of details.reported) by of.0 of.1.says,
-      is_proved reading bytes read details.reported details.proved by of.1.proof,
+      of.1,
+      is_answer ruling reading bytes read (status_of details.reported) (line_of details.reported) by of.2.says,
+      is_proved reading bytes read details.reported details.proved by of.2.proof,
     ))
 
 pub made_witnesses : (ruling : RulingOut) (reading : Reading) (read : TextRead) (input : Option (List ℕ)) (made : Result Witnessed AllocError)
@@ -122,12 +123,12 @@ refused_not_yes = λ is.
     let both : Refused ≡ Yes = is in
     cc
 
-pub refused_witnesses : (ruling : RulingOut) (reading : Reading) (input : Option (List ℕ)) (fault : TextFault) (details : Details) → details.reported ≡ reported.Refused fault → details.proved ≡ None
-    → IsRefusedAs reading input fault → WitnessesBy ruling reading input (Answered details)
-refused_witnesses ruling reading None fault details said none refused = tt
-refused_witnesses ruling reading (Some bytes) fault details said none refused =
-    subst (λ s. (status_of s ≢ Yes) × IsWitnessAnswer ruling reading bytes (status_of s) (line_of s) × IsProvedOf reading bytes s details.proved) (sym said)
-    (refused_not_yes, (fault, refl, refused), none)
+pub refused_witnesses : (ruling : RulingOut) (reading : Reading) (input : Option (List ℕ)) (fault : TextFault) (details : Details) (certificate : Vec ℕ Global) → details.reported ≡ reported.Refused fault → details.proved ≡ None
+    → certificate.items ≡ [] → IsRefusedAs reading input fault → WitnessesBy ruling reading input (Answered details certificate)
+refused_witnesses ruling reading None fault details certificate said none empty refused = tt
+refused_witnesses ruling reading (Some bytes) fault details certificate said none empty refused =
+    subst (λ s. (status_of s ≢ Yes) × MayFollow (status_of s) certificate.items × IsAnswer ruling reading bytes (status_of s) (line_of s) × IsProvedOf reading bytes s details.proved) (sym said)
+    (refused_not_yes, empty, (fault, refl, refused), none)
 
 -- ---- what was found of a text
 

@@ -1,5 +1,5 @@
 -- What a written line says of the bytes that were read, under a reading of histories.
-use Rattle.std.specs.Prelude.{◌≡◌, ℕ, ◌+◌, ◌-◌, ◌⊎◌, Bool, true, false, List, codes, filter, length, Ok, Err, Option, None, Some, IfSome, unwrap_or}
+use Rattle.std.specs.Prelude.{◌≡◌, ℕ, ◌+◌, ◌++◌, ◌-◌, ◌⊎◌, Bool, true, false, List, codes, filter, length, Ok, Err, Option, None, Some, IfSome, unwrap_or}
 use Rattle.events.specs.declared.event.Event.{Event}
 use Rattle.events.specs.declared.event.Event.TheVariants.{Call, Reply, Lost}
 use Rattle.api_lines.specs.declared.text_fault.TextFault.{TextFault}
@@ -240,12 +240,17 @@ pub record IsWitnessed (reading : Reading) (read : TextRead) (text : List ℕ) :
   -- the history is explained under the reading (`IsExplained`)
   pub explained : IsExplained reading read.voids read.history
 
+-- this holds of the beginning of the text; of what follows it nothing is said
+abbrev pub IsFollowed : (List ℕ → Type 0) → List ℕ → Type 0
+IsFollowed P text = (first more : List ℕ) × (text ≡ first ++ more) × P first
+
 -- What is written if a witness is asked for: the text of one (`IsWitnessed`), or the line of a check, as in `IsAnswer`.
+-- After the line of a history that is refuted a certificate may follow, of which nothing is said.
 -- Source: profile.
 abbrev pub IsWitnessAnswer : RulingOut → Reading → List ℕ → Status → List ℕ → Type 0
 IsWitnessAnswer ruling reading input Yes text = OfText reading input (λ read. IsWitnessed reading read text)
 IsWitnessAnswer ruling reading input No text = IsAnswer ruling reading input No text
-IsWitnessAnswer ruling reading input Refuted text = IsAnswer ruling reading input Refuted text
+IsWitnessAnswer ruling reading input Refuted text = IsFollowed (IsAnswer ruling reading input Refuted) text
 IsWitnessAnswer ruling reading input Refused text = IsAnswer ruling reading input Refused text
 
 -- The witness reads as entries that cover what is judged, and the text is explained under the reading, with these counts;

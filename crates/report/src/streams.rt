@@ -154,7 +154,8 @@ pub fn explain_stream<T: Threads + Wait + Sync, R: Read, W: Write>(
 }
 
 /// Reads a history text to its end and writes the text of its witness if `check_stream` says yes, and the
-/// line of `check_stream` if it does not.
+/// line of `check_stream` if it does not. If the line says that a document is ruled out, a certificate of that follows
+/// it, of which nothing is promised: it can be checked without a search.
 ///
 /// Errors: `Read` and `NoMemory`, whichever comes first, after which the writer holds what it held; then
 /// `Write`, after which it holds a prefix of the text.

@@ -9,7 +9,8 @@ ghost use Rattle.stream_io.specs.Faults.{IsReadingFault};
 ghost use Rattle.stream_io.specs.Taken.{TakesHistory};
 ghost use Rattle.report.specs.Findings.{IsFoundOf};
 ghost use Rattle.report.specs.Verdict.{WitnessesInput};
-ghost use Rattle.report.specs.Witnessed.{WitnessesBy};
+ghost use Rattle.report.specs.Details.{status_of};
+ghost use Rattle.report.specs.Witnessed.{MayFollow, WitnessesBy};
 ghost use Rattle.report.specs.aids.Reports.{IsProofOf, IsWitnessedOf};
 
 use crate::check_options::CheckOptions;
@@ -18,10 +19,12 @@ use crate::finding::find_alone;
 use crate::progress::CheckProgress;
 use crate::text_finding::TextFinding;
 use crate::text_input::{Kept, NumberedText, read_numbered};
-use compose::{Finding, Proof, RulingOut};
+use certificate::{CertificateSubject, certificate_text};
+use compose::{Finding, Proof, Refuted, RulingOut};
 use events::HashKeys;
 use history::laws::texts_are_read_by_rules;
-use readings::Reading;
+use readings::{Reading, attempts_of};
+use result_lines::Reported;
 use std::alloc::Global;
 use std::io::Read;
 use story::EventLines;
@@ -34,8 +37,9 @@ use witness::write_witness;
 pub enum Witnessed {
     /// The text of the witness.
     Text(Vec<u8>),
-    /// What a check finds that is not yes.
-    Answered(Details),
+    /// What a check finds that is not yes, and the certificate of a document that is ruled out, which is empty for other
+    /// answers.
+    Answered(Details, Vec<u8>),
 }
 
 // Returns the proof of a text that is explained: an order explains what was judged, and each get is explained.
@@ -45,6 +49,50 @@ fn proof_of(found: &TextFinding) -> Option<&Proof>
     match (&found.finding, found.get) {
         (Finding::Explained(proof), None) => Some(proof),
         (Finding::Explained(_), Some(_)) | (Finding::Unexplained(..), _) => None,
+    }
+}
+
+// Returns the certificate of a document of what was judged that is ruled out, if that is reported.
+fn refuted_certificate(
+    alloc: Global,
+    found: &TextFinding,
+    reported: &Reported,
+    reading: Reading,
+) -> Result<Vec<u8>, NoMemory> {
+    let (Finding::Unexplained(case, failing), Reported::Refuted(Refuted::RuledOut(named), _)) = (
+        &found.finding,
+        reported,
+    ) else {
+        return Ok(Vec::new(alloc));
+    };
+    let Some(Refuted::RuledOut(call)) = failing.evidence else {
+        return Ok(Vec::new(alloc));
+    };
+    certificate_text(
+        alloc,
+        &CertificateSubject {
+            history: case.history(),
+            conflicts: case.conflicts(),
+            attempts: attempts_of(reading.writes),
+            call,
+            call_in_text: *named,
+        },
+    )
+}
+
+// Returns the certificate that follows the line of what is reported; an empty one unless it is that a document is ruled
+// out.
+fn certificate_of(
+    alloc: Global,
+    found: &TextFinding,
+    reported: &Reported,
+    reading: Reading,
+) -> Result<Vec<u8>, NoMemory>
+    ensures { IfOk result (λ text. MayFollow (status_of reported.now) text.items) }
+{
+    match status_of(reported) {
+        Status::Refuted => refuted_certificate(alloc, found, reported, reading),
+        Status::Yes | Status::No | Status::Refused => Ok(Vec::new(alloc)),
     }
 }
 
@@ -64,7 +112,11 @@ fn witnessed_of(
             let _ = proof.history().len();
             Ok(Witnessed::Text(write_witness(alloc, proof.witnesses())?))
         }
-        None => Ok(Witnessed::Answered(details_of(alloc, found, lines, reading)?)),
+        None => {
+            let details = details_of(alloc, found, lines, reading)?;
+            let certificate = certificate_of(alloc, found, &details.reported, reading)?;
+            Ok(Witnessed::Answered(details, certificate))
+        }
     }
 }
 
@@ -84,7 +136,7 @@ fn text_witnessed(
 }
 
 /// Returns the witness of the history whose text a reader has; or, if there is none, what the line of
-/// `witness_stream` reports, and what is known beside. It writes nothing. The caller's thread searches alone, whatever
+/// `witness_stream` reports, what is known beside, and the certificate that follows the line. It writes nothing. The caller's thread searches alone, whatever
 /// the number of workers.
 ///
 /// Errors, whichever comes first: `Read` and `NoMemory`.
@@ -107,12 +159,12 @@ pub fn witness_details<R: Read>(
     texts_are_read_by_rules();
     match read_numbered(alloc, keys, options.reading.rules(), reader, kept)? {
         Ok(text) => Ok(text_witnessed(alloc, text, options)?),
-        Err(refused) => Ok(Witnessed::Answered(Details::refused(refused.fault))),
+        Err(refused) => Ok(Witnessed::Answered(Details::refused(refused.fault), Vec::new(alloc))),
     }
 }
 
-/// Returns the answer of `witness_stream` for the text of a reader: the text of its witness, or the line of a check. It
-/// writes nothing.
+/// Returns the answer of `witness_stream` for the text of a reader: the text of its witness, or the line of a check, and
+/// the certificate after it if a document is ruled out. It writes nothing.
 ///
 /// Errors, whichever comes first: `Read` and `NoMemory`.
 pub fn witness_answer<R: Read>(
@@ -137,9 +189,13 @@ pub fn witness_answer<R: Read>(
             status: Status::Yes,
             text,
         }),
-        Witnessed::Answered(details) => {
-            let line = details.reported.line(alloc)?;
-            Ok(AnswerText::of(status_of(&details.reported), line))
+        Witnessed::Answered(details, certificate) => {
+            let mut text = details.reported.line(alloc)?.into_bytes();
+            text.extend_from_slice(&certificate)?;
+            Ok(AnswerText {
+                status: status_of(&details.reported),
+                text,
+            })
         }
     }
 }

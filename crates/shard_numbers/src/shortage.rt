@@ -52,6 +52,19 @@ impl Shortage {
         self.gaps.list.get(*self.tight.get(number)?)
     }
 
+    /// Returns the numbers of the witnesses of these gaps, rising, each once.
+    pub fn witnesses(&self, alloc: Global) -> Result<Vec<usize>, NoMemory> {
+        let mut witnesses = Vec::new(alloc);
+        for number in 0..self.tight.len() {
+            if let Some(gap) = self.tight_gap(number) {
+                witnesses.push(gap.witness)?;
+            }
+        }
+        witnesses.sort_unstable();
+        witnesses.dedup();
+        Ok(witnesses)
+    }
+
     // The pairs that these gaps lie between, and those within.
     fn span(&self) -> Option<NumberSpan> {
         let first = self.tight_gap(0)?;

@@ -2,7 +2,7 @@ use crate::lost_calls::{LostCall, LostEnding};
 use crate::reported_line::ReportedLine;
 use doc_register::{Conflicts, DocState, Op, Reply};
 use events::Rec;
-use ruled_out::Stage;
+use evidence::Stage;
 use version_pair::{DocId, NoMemory, Pair};
 
 /// How a version is written.

@@ -87,7 +87,7 @@ impl Named {
         Ok(())
     }
 
-    // Adds the calls of a reason; none if the evidence already explains the call that has no position.
+    // Adds the calls of a reason; none if the evidence already explains the call that has no place.
     fn add_reason(&mut self, reason: &Reason) -> Result<(), NoMemory> {
         if reason.is_reported {
             return Ok(());

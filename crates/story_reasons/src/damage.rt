@@ -6,10 +6,10 @@ use crate::anomaly::Anomaly;
 use crate::calls::end_of;
 use crate::diagnosis::anomaly_of;
 use crate::lost_writes::{LostWrites, lost_writes};
-use crate::reason::{Reason, found_reason};
+use crate::reason::{Reason, RuledOutRecords, found_reason};
 use crate::subjects::{Subject, Subjects};
 use events::Rec;
-use evidence::Rulings;
+use evidence::{Allowance, Rulings};
 use readings::attempts_of;
 use std::alloc::Global;
 use version_pair::{DocId, NoMemory};
@@ -86,20 +86,25 @@ impl Damage {
         alloc: Global,
         account: &Account<'_>,
         rulings: &Rulings<'_>,
+        allowance: &mut Allowance,
         doc: usize,
     ) -> Result<bool, NoMemory>
         requires ruled { doc < length (documents_of rulings.now.history.now) }
         requires judged { doc < length (documents_of account.now.judged.whole.now) }
         requires document { doc < length (documents_of account.now.in_text.whole.now) }
     {
-        if !rulings.is_ruled_out(alloc, doc)? {
+        let Some(contradiction) = rulings.contradiction(alloc, doc, allowance)? else {
             return Ok(false);
-        }
+        };
         let judged = &account.judged;
-        let conflicts = judged.conflicts;
-        let writes = account.reading.writes;
         let records = judged.whole.records(doc)?;
-        match found_reason(alloc, judged.evidence, &records, conflicts, writes)? {
+        let document = RuledOutRecords {
+            records: &records,
+            conflicts: judged.conflicts,
+            writes: account.reading.writes,
+            evidence: judged.evidence,
+        };
+        match found_reason(alloc, document, &contradiction)? {
             Some(reason) => {
                 let reason = reason.in_text(&account.whole_back());
                 self.add(alloc, &reason, &account.in_text.whole.records(doc)?)?;
@@ -115,6 +120,7 @@ impl Damage {
         alloc: Global,
         account: &Account<'_>,
         rulings: &Rulings<'_>,
+        allowance: &mut Allowance,
         doc: usize,
         subject: &Subject<'_>,
     ) -> Result<(), NoMemory>
@@ -125,7 +131,7 @@ impl Damage {
         match subject.whole_reason() {
             Some(reason) => self.add(alloc, reason, &subject.records),
             None => {
-                self.add_document(alloc, account, rulings, doc)?;
+                self.add_document(alloc, account, rulings, allowance, doc)?;
                 Ok(())
             }
         }
@@ -142,7 +148,8 @@ fn subject_of<'s, 'h>(subjects: &'s [Subject<'h>], id: &DocId) -> Option<&'s Sub
     None
 }
 
-/// Returns how much of the whole history is broken. It takes at most one walk over each document.
+/// Returns how much of the whole history is broken. It takes at most one walk over each document, and several over the
+/// last calls of those that are ruled out.
 pub fn damage_of(alloc: Global, subjects: &Subjects<'_>) -> Result<Damage, NoMemory> {
     let account = &subjects.account;
     let whole = account.in_text.whole;
@@ -157,11 +164,12 @@ pub fn damage_of(alloc: Global, subjects: &Subjects<'_>) -> Result<Damage, NoMem
     let judged = &account.judged;
     let attempts = attempts_of(account.reading.writes);
     let rulings = Rulings::of(alloc, judged.whole, judged.conflicts, attempts)?;
+    let mut allowance = rulings.allowance();
     for doc in 0..documents {
         match subject_of(&subjects.list, whole.doc(doc)) {
-            Some(subject) => damage.add_subject(alloc, account, &rulings, doc, subject)?,
+            Some(subject) => damage.add_subject(alloc, account, &rulings, &mut allowance, doc, subject)?,
             None => {
-                let is_added = damage.add_document(alloc, account, &rulings, doc)?;
+                let is_added = damage.add_document(alloc, account, &rulings, &mut allowance, doc)?;
                 // A history has too few documents for the sum to reach the greatest number.
                 damage.others = damage.others.saturating_add(usize::from(is_added));
             }

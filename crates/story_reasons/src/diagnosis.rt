@@ -1,12 +1,12 @@
 use crate::anomaly::Anomaly;
 use crate::calls::{is_answered_before, record_of, version_shown};
+use crate::cause::{Cause, Unmet};
 use crate::reason::Reason;
 use crate::subject::Unexplained;
 use crate::subjects::Subject;
 use doc_register::Op;
 use events::Rec;
 use evidence::{Certainty, Refuted};
-use ruled_out::{Cause, Unmet};
 use version_pair::Pair;
 
 /// The anomaly that an explanation names, and the number of the call whose reply shows it.
@@ -17,7 +17,7 @@ pub struct Diagnosis {
 }
 
 // Whether the write of the version that the document had reached was acknowledged before the call that has no
-// position was made.
+// place was made.
 fn is_acknowledged(reason: &Reason, records: &[Rec]) -> bool {
     let shower = match (reason.links.last(), &reason.shower) {
         (Some(link), _) => &link.record,

@@ -11,17 +11,21 @@
 mod accounts;
 mod anomaly;
 mod calls;
+mod cause;
+mod course;
 mod coverage;
 mod damage;
 mod diagnosis;
 mod falling_versions;
 mod in_text;
+mod known_versions;
 mod lost_writes;
 mod order_search;
 mod order_steps;
 mod reason;
 mod subject;
 mod subjects;
+mod unhelpful;
 mod window;
 
 pub use accounts::Account;
@@ -29,6 +33,7 @@ pub use anomaly::Anomaly;
 pub use calls::{
     Call, EvidenceCalls, call_of, end_of, in_order, is_answered_before, record_of, version_shown,
 };
+pub use cause::{Cause, Unmet};
 pub use coverage::{Coverage, Terms};
 pub use damage::{AnomalyCount, Damage, damage_of};
 pub use diagnosis::{Diagnosis, diagnosis_of};
@@ -36,6 +41,7 @@ pub use falling_versions::version_fall;
 pub use lost_writes::LostWrites;
 pub use order_search::OrderSearch;
 pub use order_steps::{OrderBefore, OrderExtent, OrderStep, order_before, order_of_witness};
-pub use reason::{Reason, ReasonLink, Unreported, shows};
+pub use reason::{Beginning, PossibleState, Reason, ReasonLink, Unreported, shows};
 pub use subject::{Explained, Unexplained};
 pub use subjects::{Subject, Subjects};
+pub use unhelpful::Unhelpful;

@@ -1,8 +1,8 @@
 use crate::calls::version_shown;
+use crate::cause::Cause;
 use crate::reason::Reason;
 use doc_register::{Op, Reply};
 use events::Rec;
-use ruled_out::Cause;
 use std::alloc::Global;
 use version_pair::{NoMemory, Pair};
 
@@ -90,7 +90,7 @@ fn last_delete(records: &[Rec], event: usize) -> Option<Pair> {
     last
 }
 
-// Returns the last acknowledged version that agrees with the reply to the call that has no position: the one that
+// Returns the last acknowledged version that agrees with the reply to the call that has no place: the one that
 // it shows; else, as it shows that the document isn't there, that of the last delete.
 fn base_of(reason: &Reason, records: &[Rec]) -> Option<Pair> {
     match reason.cause {

@@ -2,13 +2,16 @@ ghost use Rattle.std.specs.Prelude.{IfOk, IfSome};
 ghost use Rattle.evidence.specs.Evidence.{IsDocumentRuledOut};
 
 use crate::calls::{EvidenceCalls, end_of, version_shown};
+use crate::cause::{Cause, End, Misfit, Unmet};
+use crate::course::Course;
 use crate::in_text::{is_twin, record_in_text};
+use crate::known_versions::KnownVersions;
 use crate::subject::Unexplained;
-use doc_register::Conflicts;
+use crate::unhelpful::{Need, Unhelpful, unhelpful_for};
+use doc_register::{Conflicts, Op, Reply};
 use events::Rec;
-use evidence::{Refuted, is_document_ruled_out};
+use evidence::{Contradiction, Refuted, Rulings, Stage, TableEvent};
 use readings::{WayBack, Writes, attempts_of};
-use ruled_out::{Cause, Stage, Standings, Stop, Unhelpful, Unmet};
 use std::alloc::Global;
 use version_pair::{NoMemory, Pair};
 
@@ -16,6 +19,9 @@ use version_pair::{NoMemory, Pair};
 const MOST_LINKS: usize = 6;
 
 const MOST_LOST: usize = 5;
+
+// The greatest number of states that are shown.
+const MOST_STATES: usize = 4;
 
 /// An answered call of a chain. It brought the document from one stage to another one, at least.
 #[derive(Clone, Copy)]
@@ -32,15 +38,35 @@ pub struct Unreported {
     pub why: Unhelpful,
 }
 
+/// What a document may be between two events.
+#[derive(Clone, Copy)]
+pub struct PossibleState {
+    pub stage: Stage,
+    pub exists: bool,
+}
+
+/// A reply after which no order explains the rest of a document's calls, whatever happened before.
+#[derive(Drop)]
+pub struct Beginning {
+    /// The call that is answered.
+    pub reply: Rec,
+    /// The first few of the states that the document can have then.
+    pub states: Vec<PossibleState>,
+    /// The number of all of them.
+    pub state_count: usize,
+}
+
 /// Why no order explains a document, whatever became of its calls without a reply.
 #[derive(Drop)]
 pub struct Reason {
-    /// The call that has no position in any order.
+    /// The call that has no place in any order.
     pub stop: Rec,
     /// Why it has none.
     pub cause: Cause,
     /// How far the document had come when that call was made.
     pub stage: Stage,
+    /// What the document can have been where the calls begin that are enough; `None` if all calls are looked at.
+    pub beginning: Option<Beginning>,
     /// The calls that brought it there, the first one first.
     pub links: Vec<ReasonLink>,
     /// Whether earlier ones of them are left out.
@@ -53,8 +79,10 @@ pub struct Reason {
     pub unreported: Vec<Unreported>,
     /// The number of all of them.
     pub unreported_count: usize,
-    /// Whether the evidence already explains the call that has no position.
+    /// Whether the evidence already explains the call that has no place.
     pub is_reported: bool,
+    /// The call that is answered last of those that are enough.
+    pub last_answered: Rec,
 }
 
 impl Reason {
@@ -68,7 +96,7 @@ impl Reason {
 
     /// Returns whether it names a call or a reply that stands after the event.
     pub fn names_after(&self, event: usize) -> bool {
-        let mut last = end_of(&self.stop);
+        let mut last = end_of(&self.stop).max(end_of(&self.last_answered));
         if let Some(shower) = &self.shower {
             last = last.max(end_of(shower));
         }
@@ -85,8 +113,12 @@ impl Reason {
     pub fn in_text(self, back: &WayBack<'_>) -> Reason {
         let mut reason = self;
         reason.stop = record_in_text(back, &reason.stop);
+        reason.last_answered = record_in_text(back, &reason.last_answered);
         if let Some(shower) = reason.shower {
             reason.shower = Some(record_in_text(back, &shower));
+        }
+        if let Some(beginning) = &mut reason.beginning {
+            beginning.reply = record_in_text(back, &beginning.reply);
         }
         for link in reason.links.iter_mut() {
             link.record = record_in_text(back, &link.record);
@@ -97,7 +129,7 @@ impl Reason {
         reason
     }
 
-    /// Returns whether some indeterminate write could have given the call a position.
+    /// Returns whether some indeterminate write could have given the call a place.
     pub fn wants_write(&self) -> bool {
         !matches!(
             self.cause,
@@ -106,27 +138,41 @@ impl Reason {
     }
 }
 
+// What is known of a document that is ruled out.
+#[derive(Drop)]
+struct Known<'a> {
+    records: &'a [Rec],
+    conflicts: Conflicts,
+    writes: Writes,
+    versions: KnownVersions,
+    course: Course,
+    // The call after whose reply nothing is left that it may be.
+    last_answered: Rec,
+}
+
 // Whether the cause is about what the document had reached when the call was made.
-fn is_bound(standings: &Standings<'_>, stop: Stop) -> bool {
-    match stop.cause {
+fn is_bound(known: &Known<'_>, misfit: Misfit) -> bool {
+    match misfit.cause {
         Cause::StillThere(_)
         | Cause::NotThere
         | Cause::There
         | Cause::Passed(_)
         | Cause::Unmet(Unmet::Changed) => true,
         Cause::WasThere(pair) | Cause::WasAbsent(pair) => {
-            standings.stage(stop.floor) == Stage::Behind(standings.last_below(pair))
+            let reached = known.course.reached_before(misfit.call.call_at);
+            let last = known.versions.last_below(pair);
+            known.versions.stage(reached) == Stage::Behind(last)
         }
         Cause::NeverRefused | Cause::Unmet(_) | Cause::Unwritten(_) => false,
     }
 }
 
 // Returns the version that the cause mentions beside what the document had reached.
-fn version_spoken_of(standings: &Standings<'_>, stop: Stop) -> Option<Pair> {
-    match stop.cause {
-        Cause::WasThere(pair) | Cause::WasAbsent(pair) => standings.last_below(pair),
+fn version_spoken_of(versions: &KnownVersions, misfit: Misfit) -> Option<Pair> {
+    match misfit.cause {
+        Cause::WasThere(pair) | Cause::WasAbsent(pair) => versions.last_below(pair),
         Cause::Unmet(Unmet::Replaced(pair)) | Cause::Unwritten(pair) => Some(pair),
-        Cause::Unmet(Unmet::Deleted) => stop.call.op.condition(),
+        Cause::Unmet(Unmet::Deleted) => misfit.call.op.condition(),
         _ => None,
     }
 }
@@ -148,7 +194,7 @@ fn shower_of(records: &[Rec], pair: Pair) -> Option<Rec> {
     None
 }
 
-// The calls that lead to the call that has no position, the first one first.
+// The calls that lead to the call that has no place, the first one first.
 #[derive(Drop)]
 struct Chain {
     links: Vec<ReasonLink>,
@@ -156,13 +202,18 @@ struct Chain {
     is_cut: bool,
 }
 
-// Returns the chain that leads to the call that has no position, if the cause is about what the document had reached;
-// else an empty one. It begins with a call whose reply shows the version, or with one that was made before the document
-// was written.
-fn chain_to(alloc: Global, standings: &Standings<'_>, stop: Stop) -> Result<Chain, NoMemory> {
+// Returns the chain that leads to the call that has no place, if the cause is about what the document had reached; else an
+// empty one. It begins with a call whose reply shows the version, or with one that was made before the document was
+// written.
+fn chain_to(alloc: Global, known: &Known<'_>, misfit: Misfit) -> Result<Chain, NoMemory> {
+    let Known {
+        versions,
+        course,
+        ..
+    } = known;
     let mut links = Vec::new(alloc);
-    let mut next = if is_bound(standings, stop) {
-        standings.raised_to(stop.floor)
+    let mut next = if is_bound(known, misfit) {
+        course.raised_before(misfit.call.call_at)
     } else {
         None
     };
@@ -172,13 +223,13 @@ fn chain_to(alloc: Global, standings: &Standings<'_>, stop: Stop) -> Result<Chai
         };
         links.push(ReasonLink {
             record: raise.call,
-            from: standings.stage(raise.floor),
-            to: standings.stage(raise.earliest),
+            from: versions.stage(course.reached_before(raise.call.call_at)),
+            to: versions.stage(raise.reached),
         })?;
         next = if version_shown(&raise.call).is_some() {
             None
         } else {
-            standings.raised_to(raise.floor)
+            course.raised_before(raise.call.call_at)
         };
     }
     links.reverse();
@@ -188,54 +239,58 @@ fn chain_to(alloc: Global, standings: &Standings<'_>, stop: Stop) -> Result<Chai
     })
 }
 
-// Adds the write of this number if no reply says whether it was performed, and there is room.
+// Whether the call is a write of which no reply says whether it was performed, neither one that a reading adds nor the
+// call that has no place.
+fn is_unreported(known: &Known<'_>, misfit: Misfit, call: &Rec) -> bool {
+    let is_silent = match call.heard {
+        None => call.op != Op::Get,
+        Some((_, Reply::Conflict)) => known.conflicts == Conflicts::Maybe,
+        Some(_) => false,
+    };
+    is_silent && !is_twin(known.writes, call.no) && call.no != misfit.call.no
+}
+
+// Adds the call if it is a write of which no reply says whether it was performed, and there is room.
 fn add_unreported(
     unreported: &mut Vec<Unreported>,
-    standings: &Standings<'_>,
-    stop: Stop,
-    writes: Writes,
-    number: usize,
+    known: &Known<'_>,
+    misfit: Misfit,
+    need: &Need<'_>,
+    call: &Rec,
 ) -> Result<(), NoMemory> {
-    let Some(write) = standings.records.get(number).copied() else {
-        return Ok(());
-    };
-    if unreported.len() < MOST_LOST && !is_twin(writes, write.no) {
-        if let Some(why) = standings.unhelpful(stop, number) {
-            unreported.push(Unreported { write, why })?;
-        }
+    if unreported.len() < MOST_LOST && is_unreported(known, misfit, call) {
+        let reached = known.course.reached_before(call.call_at);
+        unreported.push(Unreported {
+            write: *call,
+            why: unhelpful_for(need, call, reached),
+        })?;
     }
     Ok(())
 }
 
-// Returns the number of the writes of which no reply says whether they were performed, without what a reading adds: a
-// second call of a write, which is never answered.
-fn unreported_count(standings: &Standings<'_>, writes: Writes) -> usize {
-    let mut twins = 0usize;
-    for record in standings.records {
-        if is_twin(writes, record.no) {
-            // A document has too few calls for the sum to reach the greatest number.
-            twins = twins.saturating_add(1);
-        }
-    }
-    standings.unreported().saturating_sub(twins)
-}
-
 // Returns the first few of the writes of which no reply says whether they were performed. Those that were made
-// last before the reply to the call that has no position come first.
+// last before the reply to the call that has no place come first.
 fn unreported_writes(
     alloc: Global,
-    standings: &Standings<'_>,
-    stop: Stop,
-    writes: Writes,
+    known: &Known<'_>,
+    misfit: Misfit,
 ) -> Result<Vec<Unreported>, NoMemory> {
-    let records = standings.records;
-    let early = records.partition_point(|record| record.call_at < stop.reply_at);
+    let need = Need {
+        versions: &known.versions,
+        cause: misfit.cause,
+        reply_at: end_of(&misfit.call),
+        ends_at: end_of(&known.last_answered),
+        floor: known.course.reached_before(misfit.call.call_at),
+    };
+    let early = known
+        .records
+        .partition_point(|record| record.call_at < need.reply_at);
     let mut unreported = Vec::new(alloc);
-    for number in (0..early).rev() {
-        add_unreported(&mut unreported, standings, stop, writes, number)?;
+    for record in known.records[..early].iter().rev() {
+        add_unreported(&mut unreported, known, misfit, &need, record)?;
     }
-    for number in early..records.len() {
-        add_unreported(&mut unreported, standings, stop, writes, number)?;
+    for record in known.records[early..].iter() {
+        add_unreported(&mut unreported, known, misfit, &need, record)?;
     }
     Ok(unreported)
 }
@@ -248,52 +303,136 @@ fn is_reported(evidence: Option<Refuted>, no: u64) -> bool {
     }
 }
 
-// Returns the reason for a document whose walk stops at this call.
+// Returns the call that has no place, by the tables up to the reply after which nothing is left.
+fn misfit_in(
+    versions: &KnownVersions,
+    records: &[Rec],
+    contradiction: &Contradiction,
+) -> Option<Misfit> {
+    for table in contradiction.tables.iter() {
+        if let (TableEvent::Made(number), true) = (table.event, table.rows.is_empty()) {
+            let call = *records.get(number)?;
+            let pair = version_shown(&call)?;
+            let cause = Cause::Passed(pair);
+            return Some(Misfit { call, cause });
+        }
+    }
+    let last = contradiction.tables.last()?;
+    let call = records.get(contradiction.number)?;
+    let end = End {
+        versions,
+        records,
+        rows: &last.waiting,
+    };
+    end.misfit(call)
+}
+
+// What the document can have been where the tables begin, if they begin after a reply.
+fn beginning_of(
+    alloc: Global,
+    versions: &KnownVersions,
+    records: &[Rec],
+    contradiction: &Contradiction,
+) -> Result<Option<Beginning>, NoMemory> {
+    let Some(first) = contradiction.tables.first() else {
+        return Ok(None);
+    };
+    let TableEvent::Start(Some(number)) = first.event else {
+        return Ok(None);
+    };
+    let Some(reply) = records.get(number).copied() else {
+        return Ok(None);
+    };
+    let mut states = Vec::new(alloc);
+    for row in first.rows.iter().take(MOST_STATES) {
+        states.push(PossibleState {
+            stage: versions.stage(row.least),
+            exists: row.exists,
+        })?;
+    }
+    Ok(Some(Beginning {
+        reply,
+        states,
+        state_count: first.rows.len(),
+    }))
+}
+
+// Returns the reason for a document of which this is known, and of which this call has no place.
 fn reason_at(
     alloc: Global,
     evidence: Option<Refuted>,
-    standings: &Standings<'_>,
-    stop: Stop,
-    writes: Writes,
+    known: &Known<'_>,
+    misfit: Misfit,
+    beginning: Option<Beginning>,
 ) -> Result<Reason, NoMemory> {
-    let last = version_spoken_of(standings, stop);
+    let last = version_spoken_of(&known.versions, misfit);
     let shower = match last {
-        Some(pair) => shower_of(standings.records, pair),
+        Some(pair) => shower_of(known.records, pair),
         None => None,
     };
-    let Chain { links, is_cut } = chain_to(alloc, standings, stop)?;
+    let Chain { links, is_cut } = chain_to(alloc, known, misfit)?;
+    let reached = known.course.reached_before(misfit.call.call_at);
     Ok(Reason {
-        stop: stop.call,
-        cause: stop.cause,
-        stage: standings.stage(stop.floor),
+        stop: misfit.call,
+        cause: misfit.cause,
+        stage: known.versions.stage(reached),
+        beginning,
         links,
         is_cut,
         last,
         shower,
-        unreported: unreported_writes(alloc, standings, stop, writes)?,
-        unreported_count: unreported_count(standings, writes),
-        is_reported: is_reported(evidence, stop.call.no),
+        unreported: unreported_writes(alloc, known, misfit)?,
+        unreported_count: known
+            .records
+            .iter()
+            .filter(|call| is_unreported(known, misfit, call))
+            .count(),
+        is_reported: is_reported(evidence, misfit.call.no),
+        last_answered: known.last_answered,
     })
 }
 
-/// Returns why no order explains the document with these records of what was judged, in which writes were performed so
-/// often, as a guess for people; `None` if none is found.
+/// What a reason is made of.
+#[derive(Clone, Copy)]
+pub struct RuledOutRecords<'a> {
+    /// The calls of a document of what was judged.
+    pub records: &'a [Rec],
+    pub conflicts: Conflicts,
+    /// How often a write may have been performed.
+    pub writes: Writes,
+    /// The evidence that was found, if some was.
+    pub evidence: Option<Refuted>,
+}
+
+/// Returns why no order explains the document, by the tables along its last events that show it: a guess for people.
+/// `None` if none is found.
 pub fn found_reason(
     alloc: Global,
-    evidence: Option<Refuted>,
-    records: &[Rec],
-    conflicts: Conflicts,
-    writes: Writes,
+    document: RuledOutRecords<'_>,
+    contradiction: &Contradiction,
 ) -> Result<Option<Reason>, NoMemory> {
-    let standings = Standings::of(alloc, records, conflicts)?;
-    match standings.stop() {
-        Some(stop) => Ok(Some(reason_at(alloc, evidence, &standings, stop, writes)?)),
-        None => Ok(None),
-    }
+    let records = document.records;
+    let Some(last_answered) = records.get(contradiction.number).copied() else {
+        return Ok(None);
+    };
+    let known = Known {
+        records,
+        conflicts: document.conflicts,
+        writes: document.writes,
+        versions: KnownVersions::of(alloc, records)?,
+        course: Course::of(alloc, records, contradiction)?,
+        last_answered,
+    };
+    let Some(misfit) = misfit_in(&known.versions, records, contradiction) else {
+        return Ok(None);
+    };
+    let beginning = beginning_of(alloc, &known.versions, records, contradiction)?;
+    let reason = reason_at(alloc, document.evidence, &known, misfit, beginning)?;
+    Ok(Some(reason))
 }
 
 /// Returns why no order explains the document of this number, with these records; `None` if it isn't ruled
-/// out. Both are of what was judged, in which writes were performed so often.
+/// out. Both are of what was judged. `writes` states how often a write may have been performed.
 ///
 /// The reason is a guess for people. But if there is one, the document is ruled out (provably not
 /// linearizable): that is checked again, as evidence is.
@@ -309,9 +448,19 @@ pub fn reason_of(
 {
     let history = unexplained.history;
     let conflicts = unexplained.conflicts;
-    let attempts = attempts_of(writes);
-    if doc < history.docs() && is_document_ruled_out(alloc, history, doc, conflicts, attempts)? {
-        return found_reason(alloc, unexplained.evidence, records, conflicts, writes);
+    if doc >= history.docs() {
+        return Ok(None);
     }
-    Ok(None)
+    let document = RuledOutRecords {
+        records,
+        conflicts,
+        writes,
+        evidence: unexplained.evidence,
+    };
+    let rulings = Rulings::of(alloc, history, conflicts, attempts_of(writes))?;
+    let mut allowance = rulings.allowance();
+    match rulings.contradiction(alloc, doc, &mut allowance)? {
+        Some(contradiction) => found_reason(alloc, document, &contradiction),
+        None => Ok(None),
+    }
 }

@@ -1,9 +1,9 @@
 use doc_register::Op;
-use ruled_out::{Cause, Stage, Unmet};
-use story_reasons::Reason;
+use evidence::Stage;
+use story_reasons::{Cause, Reason, Unmet};
 use version_pair::Pair;
 
-// The words of these templates are those of `add_stop`: 0 is the call that has no position, 1 the version that the cause
+// The words of these templates are those of `add_stop`: 0 is the call that has no place, 1 the version that the cause
 // is about, 2 how far the document had come, 3 the call that shows a version, 4 the last version before that of the
 // cause, 5 what the reply says of the document, 6 what is known of it, and 7 what something must have done to it.
 
@@ -53,7 +53,7 @@ pub fn version_of(reason: &Reason) -> Option<Pair> {
 // Says why it can't be that something changed the document.
 fn unchanged(stage: Stage) -> &'static str {
     match stage {
-        Stage::Never => "But no reply shows that anything did.",
+        Stage::Never => "But no write can have done so by then.",
         Stage::At(_) => "But with {1} {6}, and no reply shows that this changed later.",
         Stage::Behind(_) =>
             "But it had {2}, after which {6}, and no reply shows that this changed later.",
@@ -108,7 +108,7 @@ fn unwritten(reason: &Reason) -> &'static str {
     }
 }
 
-/// Returns what follows from the reply to the call that has no position in any order, and why it can't be, as
+/// Returns what follows from the reply to the call that has no place in any order, and why it can't be, as
 /// templates.
 pub fn cause_templates(reason: &Reason) -> [&'static str; 3] {
     let otherwise = "So something must have {7} the document before line {0.replied}. ";
@@ -129,7 +129,7 @@ pub fn cause_templates(reason: &Reason) -> [&'static str; 3] {
             "",
         ],
         Cause::StillThere(_) => [
-            "So something must have replaced {1} before line {0.replied}. But no reply shows a later version of the document.",
+            "So something must have replaced {1} before line {0.replied}. But no write can have done so by then.",
             "",
             "",
         ],

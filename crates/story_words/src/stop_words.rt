@@ -17,7 +17,7 @@ fn answer_template(record: &Rec) -> &'static str {
     }
 }
 
-/// Adds the call that has no position in any order, and why, in sentences: that it was made, after the calls that
+/// Adds the call that has no place in any order, and why, in sentences: that it was made, after the calls that
 /// bound it if there are some, how it was answered, and why that can't be.
 pub fn add_stop(draft: &mut Draft<'_>, reason: &Reason) {
     let made = if reason.links.is_empty() {

@@ -1,18 +1,17 @@
 use readings::{Reading, Writes};
-use ruled_out::Unhelpful;
 use story_blocks::Word::Version;
 use story_blocks::{Draft, unreported_kind};
-use story_reasons::{Reason, Unreported};
+use story_reasons::{Reason, Unhelpful, Unreported};
 use version_pair::Pair;
 
-// Returns why the write doesn't help, as a template: 0 is the write, 1 the call that has no position, 2 and 3 the
+// Returns why the write doesn't help, as a template: 0 is the write, 1 the call that has no place, 2 and 3 the
 // versions between which the write could have been performed.
 fn unhelpful_template(unreported: &Unreported) -> &'static str {
     match (unreported.why, unreported.write.op.condition()) {
         (Unhelpful::Late, _) => {
             "it was called only after the reply to call {1.no} (line {1.replied})"
         }
-        (Unhelpful::Vain, _) => "no write would help",
+        (Unhelpful::Vain, _) => "it can't have been performed where that is needed",
         (Unhelpful::Writes, _) => "it writes, and a delete is needed",
         (Unhelpful::Deletes, _) => "it deletes, and a write of a number is needed",
         (Unhelpful::OtherNumber, _) => "it writes another number than was found",

@@ -1,5 +1,6 @@
 -- An answer that was written, or a front of it.
-use Rattle.std.proofs.Common.{ℕ, ◌≡◌, List, take, sym, subst, Option, Result, Ok, Err}
+use Rattle.std.proofs.Common.{ℕ, ◌≡◌, ◌++◌, List, [], take, ap, ◌∙◌, sym, subst, Option, Result, Ok, Err}
+use Rattle.std.proofs.lemmas.List.{append-nil}
 use Rattle.std.specs.Prelude.{IfOk, IsErrOf, MatchResult}
 use Rattle.std.specs.Io.KnownBytes.{Appends}
 use Rattle.stream_io.specs.Written.{HasAnswer, HasPrefix}
@@ -18,3 +19,7 @@ pub wrote_front : (r : Result Status StreamFault) (P : Status → List ℕ → T
     → IsErrOf r Write → HasPrefix P old new
 wrote_front (Ok s) P old new status text written is cut = let impossible : Ok s ≡ Err Write = cut in absurd (cc)
 wrote_front (Err f) P old new status text written is cut = (status, text, written.1.0, written.1.1, is)
+
+-- a text that nothing follows
+pub nothing_follows : (text more : List ℕ) → more ≡ [] → text ++ more ≡ text
+nothing_follows text more none = ap (λ xs. text ++ xs) none ∙ append-nil text

@@ -1,4 +1,4 @@
-"""Calls in words, for the sentences about witnesses."""
+"""Calls in words, for the sentences about witnesses and certificates."""
 
 from typing import Tuple
 

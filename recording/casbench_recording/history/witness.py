@@ -2,14 +2,14 @@
 
 `witness_by_log` makes the witness of a history from the changes in the store's own log, for a strict check.
 `checked` runs `witness_checker`, which is independent of the prover, and adds a sentence about the calls if
-the witness isn't valid.
+the witness isn't valid. In place of a witness it takes a certificate.
 """
 
 import heapq
 from bisect import bisect_right
 from typing import Iterator, List, Mapping, NamedTuple, Optional, Sequence, Tuple
 
-from . import witness_checker
+from . import certificate, witness_checker
 from .format import Pair, compact
 from .named_calls import named, spelled
 from .readings import STRICT, Reading
@@ -166,7 +166,10 @@ def words_of(reading: Reading) -> witness_checker.ReadingValues:
 
 
 def checked(history: bytes, witness: bytes, reading: Reading = STRICT) -> Tuple[int, str]:
-    """Checks the two texts; returns the exit status and the output."""
+    """Checks the two texts, of which the second may be a certificate; returns the exit status and the
+    output."""
+    if certificate.is_certificate(witness):
+        return certificate.checked(history, witness, words_of(reading))
     try:
         counts = witness_checker.check(witness_checker.Texts(history, witness, words_of(reading)))
     except witness_checker.Refused as fault:

@@ -19,6 +19,7 @@ use Rattle.stream_io.specs.declared.status.Status.TheVariants.{Yes}
 use Rattle.readings.specs.declared.unexplained.UnexplainedGet.{UnexplainedGet}
 use Rattle.report.specs.Details.{HasNoOrder, IsProvedIfComplete, calls_reported, status_of}
 use Rattle.report.specs.Verdict.{IsWitnessed, Says}
+use Rattle.report.specs.Witnessed.{MayFollow}
 use Rattle.report.specs.declared.witnessed.Witnessed.{Witnessed}
 use Rattle.report.specs.declared.witnessed.Witnessed.TheVariants.{Text, Answered}
 
@@ -58,8 +59,8 @@ IsProofOf finding get (Some proof) = (finding ≡ Explained proof) × (get ≡ N
 -- what is answered, of what was read of a text, if a witness is asked for
 abbrev pub IsWitnessedOf : RulingOut → Reading → TextRead → Witnessed → Type 0
 IsWitnessedOf ruling reading read (Text text) = IsWitnessed reading read text.items
-IsWitnessedOf ruling reading read (Answered details) =
-    (status_of details.reported ≢ Yes) × IsReportOn ruling reading read details.reported details.proved
+IsWitnessedOf ruling reading read (Answered details certificate) =
+    (status_of details.reported ≢ Yes) × MayFollow (status_of details.reported) certificate.items × IsReportOn ruling reading read details.reported details.proved
 
 -- the call of this number is on the document and the shard of the reply
 abbrev pub IsOnDocumentOf : List Event → ℕ → BrokenReply → Type 0

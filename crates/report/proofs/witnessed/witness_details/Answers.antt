@@ -11,4 +11,4 @@ pub returns-in-Err-clause-answer : goal.returns-in-Err-clause-answer
 returns-in-Err-clause-answer g c =
     let input = g.R.Read.remaining c.args.reader.now in
     let is = was_refused (λ e. e.fault) c.args.options.reading c.rules.result input c.in_ok-text.field-0 c.in-Err.refused c.rules.ensures c.in-Err.is c.in_ok-text.ensures.reported in
-    refused_witnesses c.args.options.ruling_out c.args.options.reading input c.in-Err.refused.fault c.refused.result c.refused.ensures.reported c.refused.ensures.proved is
+    refused_witnesses c.args.options.ruling_out c.args.options.reading input c.in-Err.refused.fault c.refused.result c.new.result c.refused.ensures.reported c.refused.ensures.proved c.new.ensures.items is

@@ -1,4 +1,4 @@
-use Rattle.std.proofs.Common.{List, sym, ap, subst, ◌∙◌, slice_get}
+use Rattle.std.proofs.Common.{List, subst}
 use Rattle.std.proofs.lemmas.Result.{IfOk-weaker}
 use Rattle.evidence.specs.declared.known_pairs.KnownPair.{KnownPair}
 use Rattle.evidence.specs.aids.KnownPairs.{IsOther}
