@@ -58,7 +58,7 @@ FILES = {
     "none": b"",
     "few.not-judged": b"",
     "none.not-judged": b"",
-    **dict.fromkeys(["check", "help", "-", "a b", "--help"], case_text("index-then-get").encode()),
+    **dict.fromkeys(["check", "help", "-", "a b", "a\nb", "--help"], case_text("index-then-get").encode()),
 }
 
 ANSWER, NOTHING, VERIFIED_NOTHING = yes(2), yes(0, docs=0), verified(0, docs=0)
@@ -138,22 +138,30 @@ ANSWERED = [
     ("verify - -", 4, "", TWO_INPUTS),
     ("bulk empty -", 2, "refused line=1 cause=syntax\n", ""),
     ("bulk - -", 4, "", TWO_INPUTS),
-    # several files: a line for each behind its name, and the greatest of their statuses
+    # several files: a line for each behind its name, and the status of the worst: 1, then 2, 6 and 0
     ("check check help", 0, f"check: {ANSWER}help: {ANSWER}", ""),
     ("check help check --workers 3", 0, f"help: {ANSWER}check: {ANSWER}", ""),
     ("check help --conflicts maybe check", 0, f"help: {ANSWER}check: {ANSWER}", ""),
     ("check check check", 0, f"check: {ANSWER}check: {ANSWER}", ""),
     ("check 'a b' -- --help", 0, f"a b: {ANSWER}--help: {ANSWER}", ""),
+    # a line feed in a name makes no line
+    ("check 'a\nb' check", 0, f"a\\x0ab: {ANSWER}check: {ANSWER}", ""),
     ("check check story hidden", 1, f"check: {ANSWER}story: {STALE}hidden: {no(3, 2)}", ""),
-    ("check packed.gz story", 2, f"packed.gz: {refused(1, 'json')}story: {STALE}", PACKED),
-    ("check story packed.gz check", 2, f"story: {STALE}packed.gz: {refused(1, 'json')}check: {ANSWER}", PACKED),
+    ("check packed.gz story", 1, f"packed.gz: {refused(1, 'json')}story: {STALE}", PACKED),
+    ("check story packed.gz check", 1, f"story: {STALE}packed.gz: {refused(1, 'json')}check: {ANSWER}", PACKED),
     ("check check -", 0, f"check: {ANSWER}-: {NOTHING}", no_calls()),
     ("check empty check", 0, f"empty: {NOTHING}check: {ANSWER}", no_calls("empty")),
     ("check - check -", 4, "", TWO_INPUTS),
     ("check check absent lost", 4, "", absent("absent", READ_FAULT)),
     ("check story broken", 4, "", DIRECTORY),
     ("check one check --at-least 2", 6, f"one: {yes(1, left_out=1)}check: {ANSWER}", too_few("1 call", 2, "one")),
-    ("check story few --at-least 3", 6, f"story: {STALE}few: {ANSWER}", too_few("2 calls", 3, "few") + LISTED.format("few")),
+    (
+        "check few packed.gz --at-least 3",
+        2,
+        f"few: {ANSWER}packed.gz: {refused(1, 'json')}",
+        too_few("2 calls", 3, "few") + LISTED.format("few") + PACKED,
+    ),
+    ("check story few --at-least 3", 1, f"story: {STALE}few: {ANSWER}", too_few("2 calls", 3, "few") + LISTED.format("few")),
     # the least number of calls, which is asked of a yes alone; a list of what was not judged lies beside `few`
     ("check check --at-least 2", 0, ANSWER, ""),
     ("check check --at-least=3", 6, ANSWER, too_few("2 calls", 3, "check")),

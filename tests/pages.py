@@ -263,6 +263,15 @@ class Pages(ProgramTest):
         pages = map(os.path.normpath, ("old.html", "new.html", "sub/new.html", "./new.html"))
         self.run_rows(self.check_written, [(it, it) for it in pages])
 
+    def test_permissions(self):
+        """The page has those of the one whose place it takes."""
+        with new_folder() as folder:
+            for mode in (0o600, 0o640, 0o664):
+                (folder / "old.html").chmod(mode)
+                self.assertEqual(self.ended(folder, "h --html old.html").status, 1)
+                self.assertEqual((folder / "old.html").stat().st_mode & 0o777, mode)
+                self.assertTrue((folder / "old.html").read_text() == self.page)
+
     def check_written_through(self, folder, link):
         end = self.ended(folder, f"h --html {link}")
         self.assertEqual(end[:3], (1, self.out, ""))

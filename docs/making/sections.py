@@ -220,6 +220,7 @@ SECTIONS = (
         (
             "command_line/specs/Asked.antt",
             "casbench/specs/Input.antt",
+            "casbench/specs/Names.antt",
             "casbench/specs/Outcomes.antt",
             "casbench/specs/Each.antt",
             "casbench/specs/Objects.antt",

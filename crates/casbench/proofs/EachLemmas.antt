@@ -14,8 +14,8 @@ use Rattle.stream_io.specs.declared.status.Status.{Status}
 use Rattle.std.proofs.lemmas.List.{flat_map_more, map-append}
 use Rattle.std.proofs.Math.Seq.{take-suc}
 use Rattle.std.proofs.lemmas.List.Elements.{All-cons, All-head, All-nil, All-push, All-tail}
-use Rattle.casbench.specs.Each.{AnswersEach, AnswersOne, AreOfFiles, CheckedText, Named, greatest_from, named_of}
-use Rattle.casbench.specs.Exit.{greater_outcome}
+use Rattle.casbench.specs.Each.{AnswersEach, AnswersOne, AreOfFiles, CheckedText, Named, worst_from, named_of}
+use Rattle.casbench.specs.Exit.{worse_outcome}
 use Rattle.casbench.specs.Input.{names_input}
 use Rattle.command_line.specs.declared.form.Form.{Form}
 use Rattle.casbench.specs.declared.named_text.NamedText.{NamedText}
@@ -27,26 +27,26 @@ use Rattle.stream_io.specs.declared.status.Status.TheVariants.{Yes}
 
 -- of no text nothing is written
 pub nothing : (ruling : RulingOut) (reading : Reading) (least : ℕ) (form : Form) → AnswersEach ruling reading least form [] (Answered Yes) []
-unfolding greatest_from
+unfolding worst_from
 nothing ruling reading least form = record {
   checked = [];
   each = refl;
   answered = All-nil (λ (c : CheckedText). AnswersOne ruling reading least form c.text c.outcome c.line);
   lines = refl;
-  greatest = refl;
+  worst = refl;
 }
 
--- the greatest outcome, with one more
-greatest_more : (outcome : Outcome) (cs : List CheckedText) (c : CheckedText)
-    → greatest_from outcome (cs ++ c ∷ []) ≡ greater_outcome (greatest_from outcome cs) c.outcome
-unfolding greatest_from
-greatest_more outcome [] c = refl
-greatest_more outcome (d ∷ cs) c = greatest_more (greater_outcome outcome d.outcome) cs c
+-- the worst outcome, with one more
+worst_more : (outcome : Outcome) (cs : List CheckedText) (c : CheckedText)
+    → worst_from outcome (cs ++ c ∷ []) ≡ worse_outcome (worst_from outcome cs) c.outcome
+unfolding worst_from
+worst_more outcome [] c = refl
+worst_more outcome (d ∷ cs) c = worst_more (worse_outcome outcome d.outcome) cs c
 
--- of one more text its line is added, and the outcome with the greater exit status counts
+-- of one more text its line is added, and the worse outcome counts
 pub one_more : (ruling : RulingOut) (reading : Reading) (least : ℕ) (form : Form) {texts : List Named} {before : Outcome} {lines : List ℕ} {text : Named} {outcome : Outcome} {line : List ℕ}
     → AnswersEach ruling reading least form texts before lines → AnswersOne ruling reading least form text outcome line
-    → AnswersEach ruling reading least form (texts ++ text ∷ []) (greater_outcome before outcome) (lines ++ line)
+    → AnswersEach ruling reading least form (texts ++ text ∷ []) (worse_outcome before outcome) (lines ++ line)
 one_more ruling reading least form {texts} {before} {lines} {text} {outcome} {line} each one =
     let more : CheckedText = record { text = text; outcome = outcome; line = line } in
     record {
@@ -54,7 +54,7 @@ one_more ruling reading least form {texts} {before} {lines} {text} {outcome} {li
       each = ap (λ ts. ts ++ text ∷ []) each.each ∙ sym (map-append (λ (c : CheckedText). c.text) each.checked (more ∷ []));
       answered = All-push (λ (c : CheckedText). AnswersOne ruling reading least form c.text c.outcome c.line) each.checked more each.answered one;
       lines = ap (λ ls. ls ++ line) each.lines ∙ flat_map_more (λ (c : CheckedText). c.line) [] each.checked more;
-      greatest = ap (λ o. greater_outcome o outcome) each.greatest ∙ sym (greatest_more (Answered Yes) each.checked more);
+      worst = ap (λ o. worse_outcome o outcome) each.worst ∙ sym (worst_more (Answered Yes) each.checked more);
     }
 
 -- what is written of a text answers it, with an outcome of its status and the number of its calls
@@ -81,14 +81,14 @@ pub one_more_written : {S : Type 0} (remaining : S → Option (List ℕ)) (rulin
     → AnswersEach ruling reading least form (map (named_of remaining) (take i texts)) before lines
     → IsWrittenOf ruling reading form (get_or texts i d).name.now (remaining (get_or texts i d).source) it → status_of outcome ≡ it.status
     → ((bytes : List ℕ) → CountsCalls bytes it.status it.calls → IsJudged least bytes outcome)
-    → AnswersEach ruling reading least form (map (named_of remaining) (take (i + 1) texts)) (greater_outcome before outcome) (lines ++ it.text.items)
+    → AnswersEach ruling reading least form (map (named_of remaining) (take (i + 1) texts)) (worse_outcome before outcome) (lines ++ it.text.items)
 one_more_written remaining ruling reading least form texts i d {before} {lines} it outcome within each written same judged =
     let text = get_or texts i d in
     let one = answers_one ruling reading least form text.name.now (remaining text.source) it outcome written same judged in
     let more : map (named_of remaining) (take (i + 1) texts) ≡ map (named_of remaining) (take i texts) ++ named_of remaining text ∷ [] =
     ap (λ n. map (named_of remaining) (take n texts)) (add-one i) ∙ ap (map (named_of remaining)) (take-suc texts i d within)
     ∙ map-append (named_of remaining) (take i texts) (text ∷ []) in
-    subst (λ ts. AnswersEach ruling reading least form ts (greater_outcome before outcome) (lines ++ it.text.items)) (sym more)
+    subst (λ ts. AnswersEach ruling reading least form ts (worse_outcome before outcome) (lines ++ it.text.items)) (sym more)
     (one_more ruling reading least form each one)
 
 -- ---- the texts of files

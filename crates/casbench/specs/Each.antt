@@ -2,8 +2,9 @@
 use Rattle.std.specs.Prelude.{◌≡◌, ℕ, true, List, [], ◌∷◌, ◌++◌, Option, Some, IfSome, codes, map, take}
 use Rattle.std.specs.Io.KnownBytes.{Appends}
 use Rattle.std.specs.List.{All, flat_map}
-use Rattle.casbench.specs.Exit.{greater_outcome}
+use Rattle.casbench.specs.Exit.{worse_outcome}
 use Rattle.casbench.specs.Input.{names_input}
+use Rattle.casbench.specs.Names.{shown_name}
 use Rattle.casbench.specs.Objects.{IsObjectOn}
 use Rattle.casbench.specs.Outcomes.{IsJudged, status_of}
 use Rattle.command_line.specs.declared.form.Form.{Form}
@@ -26,11 +27,11 @@ Named = List ℕ × Option (List ℕ)
 abbrev pub named_of : {S : Type 0} → (S → Option (List ℕ)) → NamedText S → Named
 named_of remaining text = (text.name.now, remaining text.source)
 
--- what is written of a text in this form, if this is its line: the line behind the text's name and a colon; or the
--- object of the line (`IsObjectOn`)
+-- what is written of a text in this form, if this is its line: the line behind the text's name (`shown_name`) and a colon;
+-- or the object of the line (`IsObjectOn`)
 -- Source: profile.
 abbrev pub IsInForm : Reading → Form → List ℕ → Option (List ℕ) → List ℕ → List ℕ → Type 0
-IsInForm reading Lines name input line written = written ≡ name ++ (codes ": " ++ line)
+IsInForm reading Lines name input line written = written ≡ shown_name name ++ (codes ": " ++ line)
 IsInForm reading Objects name input line written = IsObjectOn reading name input line written
 
 -- What is written of one text: a line, in this form, which answers the bytes as a check of the text alone does
@@ -52,10 +53,10 @@ pub record CheckedText : Type 0 where
   pub outcome : Outcome
   pub line : List ℕ
 
--- the outcome with the greatest exit status among one and those of texts, the first of them that has it
-unfoldable pub greatest_from : Outcome → List CheckedText → Outcome
-greatest_from outcome [] = outcome
-greatest_from outcome (c ∷ cs) = greatest_from (greater_outcome outcome c.outcome) cs
+-- the worst outcome among one and those of texts, the first of those that are equally bad
+unfoldable pub worst_from : Outcome → List CheckedText → Outcome
+worst_from outcome [] = outcome
+worst_from outcome (c ∷ cs) = worst_from (worse_outcome outcome c.outcome) cs
 
 -- What is written of several texts in a form, and what it comes to.
 -- Source: profile.
@@ -67,8 +68,8 @@ pub record AnswersEach (ruling : RulingOut) (reading : Reading) (least : ℕ) (f
   pub answered : All (λ c. AnswersOne ruling reading least form c.text c.outcome c.line) checked
   -- the lines are written in this order
   pub lines : written ≡ flat_map (λ c. c.line) checked
-  -- the outcome is that with the greatest exit status; of no text it is yes
-  pub greatest : outcome ≡ greatest_from (Answered Yes) checked
+  -- the outcome is the worst one; of no text it is yes
+  pub worst : outcome ≡ worst_from (Answered Yes) checked
 
 -- The texts are those of files of these names, in their order; that of `-` is what standard input has.
 -- Source: profile.

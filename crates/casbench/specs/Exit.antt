@@ -23,10 +23,20 @@ abbrev pub code_of_outcome : Outcome → ℕ
 code_of_outcome (Answered status) = code_of_status status
 code_of_outcome TooFew = 6
 
--- the outcome with the greater exit status, and the first of two that have one
+-- How bad the outcome of a text is among those of several: that an order is missing counts more than that a text is
+-- refused, this more than too few calls, and these more than a yes.
 -- Source: profile.
-abbrev pub greater_outcome : Outcome → Outcome → Outcome
-greater_outcome first second = if nat_lt (code_of_outcome first) (code_of_outcome second) then second else first
+abbrev pub severity_of : Outcome → ℕ
+severity_of (Answered Yes) = 0
+severity_of TooFew = 1
+severity_of (Answered Refused) = 2
+severity_of (Answered No) = 3
+severity_of (Answered Refuted) = 3
+
+-- the worse outcome, and the first of two that are equally bad
+-- Source: profile.
+abbrev pub worse_outcome : Outcome → Outcome → Outcome
+worse_outcome first second = if nat_lt (severity_of first) (severity_of second) then second else first
 
 -- the exit status for a fault: 3 for NoMemory, 4 for Read and Write, 5 for Worker and Recording, 64 for
 -- Setting

@@ -2,6 +2,7 @@ pub mod Each
 pub mod Exit
 pub mod Faults
 pub mod Input
+pub mod Names
 pub mod Objects
 pub mod Outcomes
 pub mod Requests

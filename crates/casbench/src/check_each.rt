@@ -1,12 +1,13 @@
 ghost use Rattle.std.specs.Prelude.{Some as Just, None as Nothing, Ok as Fine, Err as Failed, ◌≡◌, ◌≢◌, ◌≤◌, ◌++◌, List, IfErr, IfOk, IsErrOf, codes, length, map};
 ghost use Rattle.std.specs.Io.KnownBytes.{Keeps};
 ghost use Rattle.casbench.specs.Each.{AnswersEach, AreOfFiles, IsCutOffEach, Named, named_of, or_input};
+ghost use Rattle.casbench.specs.Names.{shown_name};
 ghost use Rattle.casbench.specs.aids.Checking.{AreChecked, IsChecked, IsWrittenOf};
 ghost use Rattle.report.specs.Workers.{AreWorkers};
 ghost use Rattle.stream_io.specs.Faults.{IsCheckFault, IsReadingFault, IsStreamFault, IsWorkedFault};
 ghost use Rattle.stream_io.specs.Written.{HasAnswer};
 
-use crate::exit::greater;
+use crate::exit::worse;
 use crate::files::open_each_or;
 use crate::host::{CheckTask, Host};
 use crate::line_again::add_time;
@@ -15,6 +16,7 @@ use crate::notes::{note_calls, note_if_compressed};
 use crate::objects::details_object;
 use crate::outcome::{Outcome, outcome_of};
 use crate::progress_line::ProgressLine;
+use crate::shown_name::add_shown;
 use crate::stopwatch::Stopwatch;
 use command_line::Form;
 use report::{
@@ -31,10 +33,10 @@ use stream_io::write_text;
 
 // Returns the line behind the name of its text.
 fn named_line(alloc: Global, name: &str, line: &[u8]) -> Result<Vec<u8>, AllocError>
-    ensures { IfOk result (λ written. written.items ≡ name.now ++ (codes ": " ++ line.now)) }
+    ensures { IfOk result (λ written. written.items ≡ shown_name name.now ++ (codes ": " ++ line.now)) }
 {
     let mut written = Vec::new(alloc);
-    written.extend_from_slice(name.as_bytes())?;
+    add_shown(&mut written, name)?;
     written.extend_from_slice(b": ")?;
     written.extend_from_slice(line)?;
     Ok(written)
@@ -130,8 +132,9 @@ fn check_in_form<F: Clock, T: Threads + Wait + Sync, S: Read + Seek>(
     }
 }
 
-// Returns the options with which each of so many texts is checked beside others: the workers are shared out.
-fn shared_out(options: CheckOptions, texts: usize) -> CheckOptions
+// Returns the options with which the text at this place is checked beside others, so many in all: the workers are shared
+// out, and the first texts have those that are left over.
+fn shared_out(options: CheckOptions, place: usize, texts: usize) -> CheckOptions
     requires some { 1 ≤ texts }
     requires workers { AreWorkers options.workers }
     ensures workers { AreWorkers result.workers }
@@ -139,26 +142,30 @@ fn shared_out(options: CheckOptions, texts: usize) -> CheckOptions
     ensures reading { result.reading ≡ options.reading }
     ensures ruling_out { result.ruling_out ≡ options.ruling_out }
 {
+    let over = usize::from(place < options.workers % texts);
     CheckOptions {
-        workers: (options.workers / texts).max(1),
+        workers: (options.workers / texts)
+            .saturating_add(over)
+            .clamp(1, options.workers),
         ..options
     }
 }
 
-// Checks the text beside others, so many in all. It then holds what is written of it.
+// Checks the text at this place beside others, so many in all. It then holds what is written of it.
 fn check_named<F: Clock, T: Threads + Wait + Sync, S: Read + Seek>(
     host: &Host<'_, F, T>,
     text: &mut NamedText<'_, S>,
     options: CheckOptions,
     form: Form,
     progress: &CheckProgress,
+    place: usize,
     beside: usize,
 )
     requires some { 1 ≤ beside }
     requires workers { AreWorkers options.workers }
     ensures { IsChecked S.remaining options.ruling_out options.reading form options.workers text.old text.new }
 {
-    let own = shared_out(options, beside);
+    let own = shared_out(options, place, beside);
     let name = text.name;
     let written = check_in_form(host, name, &mut text.source, text.kept, own, form, progress);
     text.written = Some(written);
@@ -181,9 +188,9 @@ fn check_all<F: Clock + Sync, T: Threads + Wait + Sync, S: Read + Seek + Send>(
         host.threads,
         texts,
         beside,
-        &|_, text: &mut NamedText<'_, S>|
+        &|place, text: &mut NamedText<'_, S>|
             requires { AreWorkers options.workers × (1 ≤ beside) }
-        { check_named(host, text, options, form, progress, beside) },
+        { check_named(host, text, options, form, progress, place, beside) },
     );
 }
 
@@ -221,7 +228,7 @@ fn checked_texts<F: Clock + Sync, T: Threads + Wait + Sync, S: Read + Seek + Sen
         let text = &texts[place];
         let written = written_of(text)?;
         let next = outcome_of(written.status, written.calls, task.at_least);
-        outcome = greater(outcome, next);
+        outcome = worse(outcome, next);
         lines.extend_from_slice(&written.text)?;
     }
     Ok((outcome, lines))
@@ -279,7 +286,7 @@ fn check_each<
 
 /// Checks the text of each of the files, or the input if there are none, and writes for each its line, as
 /// `report::check_stream` does, behind its name and a colon, or its object, in the order of the files. The outcome is
-/// the one with the greatest exit status. As many texts are checked beside each other as there are workers; with more
+/// the worst one, by `worse_outcome`. As many texts are checked beside each other as there are workers; with more
 /// workers than texts each text has several. Nothing is written before all are checked. If the answer to one is yes,
 /// and it has no calls or fewer than are asked for, standard error says so. It waits as `report::check_stream` does.
 ///

@@ -1,5 +1,5 @@
 ghost use Rattle.std.specs.Prelude.{◌≡◌};
-ghost use Rattle.casbench.specs.Exit.{code_of_arguments, code_of_fault, code_of_outcome, code_of_status, greater_outcome};
+ghost use Rattle.casbench.specs.Exit.{code_of_arguments, code_of_fault, code_of_outcome, code_of_status, severity_of, worse_outcome};
 
 use crate::outcome::Outcome;
 use clap::error::ErrorKind;
@@ -32,11 +32,23 @@ pub fn outcome_code(outcome: Outcome) -> u8
     }
 }
 
-/// Returns the outcome with the greater exit status, and the first of two that have one.
-pub fn greater(first: Outcome, second: Outcome) -> Outcome
-    ensures { result ≡ greater_outcome first second }
+// How bad the outcome of a text is among those of several.
+fn severity(outcome: Outcome) -> u8
+    ensures { result ≡ severity_of outcome }
 {
-    if outcome_code(first) < outcome_code(second) {
+    match outcome {
+        Outcome::Answered(Status::Yes) => 0,
+        Outcome::TooFew => 1,
+        Outcome::Answered(Status::Refused) => 2,
+        Outcome::Answered(Status::No | Status::Refuted) => 3,
+    }
+}
+
+/// Returns the worse outcome of two texts, and the first if both are equally bad.
+pub fn worse(first: Outcome, second: Outcome) -> Outcome
+    ensures { result ≡ worse_outcome first second }
+{
+    if severity(first) < severity(second) {
         second
     } else {
         first

@@ -25,6 +25,7 @@ mod page_file;
 mod progress_line;
 mod run;
 mod search_reporter;
+mod shown_name;
 mod stopwatch;
 mod terminal;
 mod verify;

@@ -8,7 +8,7 @@ use crate::files::{Source, report_unopened};
 use crate::terminal::STANDARD_INPUT;
 use report::StreamFault;
 use std::alloc::Global;
-use std::fs::{self, Metadata, OpenFile, OpenOptions};
+use std::fs::{self, Metadata, OpenFile, OpenOptions, Permissions};
 use std::io::{self, ErrorKind};
 use std::os::unix::fs::MetadataExt;
 use std::rt::Files;
@@ -85,15 +85,35 @@ fn new_file<R: Files + Eprint>(
     Err(unwritten(rt, path, &taken))
 }
 
-// Writes the page to the file, and the file to the disk.
+// Gives the file these permissions, if there are some.
+fn permit<R: Files + Eprint>(
+    rt: &R,
+    file: &R::File,
+    path: &str,
+    permissions: Option<Permissions>,
+) -> Result<(), StreamFault>
+    ensures { IfErr result (λ fault. fault ≡ StreamFault.Write) }
+{
+    let Some(permissions) = permissions else {
+        return Ok(());
+    };
+    match file.set_permissions(permissions) {
+        Ok(()) => Ok(()),
+        Err(error) => Err(unwritten(rt, path, &error)),
+    }
+}
+
+// Writes the page to the file, which then has these permissions, if there are some, and the file to the disk.
 fn write_through<R: Files + Eprint>(
     rt: &R,
     file: &mut R::File,
     path: &str,
     page: &[u8],
+    permissions: Option<Permissions>,
 ) -> Result<(), StreamFault>
     ensures { IfErr result (λ fault. fault ≡ StreamFault.Write) }
 {
+    permit(rt, file, path, permissions)?;
     write_text(file, page)?;
     match file.sync_all() {
         Ok(()) => Ok(()),
@@ -111,8 +131,8 @@ pub enum ReadyPage<'p> {
 }
 
 impl<'p> ReadyPage<'p> {
-    /// Writes the page to a new file beside the path, or beside the file that the path links to. If what the
-    /// path names is no regular file, nothing is written yet.
+    /// Writes the page to a new file beside the path, or beside the file that the path links to. It has the
+    /// permissions of an existing page. If what the path names is no regular file, nothing is written yet.
     ///
     /// Errors: `Write` if it can't be written, and `NoMemory` if memory was refused. The new file is then
     /// removed, which is tested, not proved.
@@ -125,16 +145,20 @@ impl<'p> ReadyPage<'p> {
         // The only errors are `Write` and `NoMemory`.
         ensures { IfErr result (λ fault. (fault ≡ StreamFault.Write) ⊎ (fault ≡ StreamFault.NoMemory)) }
     {
+        let mut permissions = None;
         let target = match fs::metadata(rt, path) {
             Ok(there) if !there.is_file() => return Ok(ReadyPage::Through(path)),
-            Ok(_) => match rt.canonicalize(alloc, path) {
-                Ok(target) => target.into_string(),
+            Ok(there) => match rt.canonicalize(alloc, path) {
+                Ok(target) => {
+                    permissions = Some(there.permissions());
+                    target.into_string()
+                }
                 Err(error) => return Err(unwritten(rt, path, &error)),
             },
             Err(_) => String::from_str(alloc, path)?,
         };
         let (name, mut file) = new_file(rt, alloc, target.as_str())?;
-        match write_through(rt, &mut file, path, page) {
+        match write_through(rt, &mut file, path, page, permissions) {
             Ok(()) => Ok(ReadyPage::Beside(name, target)),
             Err(fault) => {
                 let _ = fs::remove_file(rt, name.as_str());

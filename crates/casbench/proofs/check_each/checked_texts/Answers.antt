@@ -39,7 +39,7 @@ loop-place-preserved g c =
     let written =
     subst (λ w. HasCome options.ruling_out options.reading c.args.form options.workers (slice_index_or old i text).name.now (g.S.Read.remaining (slice_index_or old i text).source) w) whole
     checked.come in (
-      same_each options.ruling_out options.reading c.args.task.at_least c.args.form (map (named_of g.S.Read.remaining) (take (i + 1) old)) (sym c.greater-outcome.ensures)
+      same_each options.ruling_out options.reading c.args.task.at_least c.args.form (map (named_of g.S.Read.remaining) (take (i + 1) old)) (sym c.worse-outcome.ensures)
           (sym (c.in_ok-extend_from_slice.ensures.items ∙ ap (λ ls. c.loop-place.lines.items ++ ls) c.deref.ensures.value))
           (one_more_written g.S.Read.remaining options.ruling_out options.reading c.args.task.at_least c.args.form old i text it c.outcome_of-next.result within c.loop-place.invariant.0 written
           c.outcome_of-next.ensures.status c.outcome_of-next.ensures.judged),
