@@ -212,7 +212,7 @@ class SideBySide(FolderTest):
         self.assertEqual(self.ended("check itself", RIGHT), (0, sorted(f"{name}: {line}" for name, line in rows)))
         rows += [("out/parts/shard-7.ndjson", REFUTED), ("out/parts/shard-8.ndjson", REFUSED)]
         lines = sorted(f"{name}: {line}" for name, line in rows)
-        self.assertEqual(self.ended("check itself", RIGHT, WRONG, NO_TEXT), (2, lines))
+        self.assertEqual(self.ended("check itself", RIGHT, WRONG, NO_TEXT), (1, lines))
 
 
 if __name__ == "__main__":

@@ -135,6 +135,7 @@ SECTIONS = (
             "deciding/specs/Facts.antt",
             "deciding/specs/Elsewhere.antt",
             "deciding/specs/Branches.antt",
+            "deciding/specs/Above.antt",
             "deciding/specs/Steps.antt",
             "deciding/specs/Tables.antt",
             "deciding/specs/Laws.antt",

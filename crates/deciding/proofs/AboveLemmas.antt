@@ -5,7 +5,7 @@ use Rattle.std.proofs.lemmas.Bool.{cases_lt, false≢true}
 use Rattle.version_pair.specs.declared.pair.Pair.{Pair}
 use Rattle.version_pair.specs.PairOrder.{IsBelow}
 use Rattle.version_pair.proofs.PairLemmas.{same_pair}
-use Rattle.deciding.specs.aids.Above.{IsLeastAbove}
+use Rattle.deciding.specs.Above.{IsLeastAbove}
 
 -- what a pair that is made of two numbers is
 abbrev pub IsMadeOf : ℕ → ℕ → Option Pair → Type 0

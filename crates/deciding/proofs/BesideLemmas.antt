@@ -16,7 +16,7 @@ use Rattle.deciding.proofs.Counts.{pair_order}
 use Rattle.deciding.specs.Reported.{IsKnown, known_pairs}
 use Rattle.deciding.specs.Positions.{count_below}
 use Rattle.deciding.specs.Branches.{IsAbove}
-use Rattle.deciding.specs.aids.Above.{IsLeastAbove}
+use Rattle.deciding.specs.Above.{IsLeastAbove}
 use Rattle.deciding.specs.aids.KnownPairs.{AreKnown, IsFreeAbove, IsNextKnown}
 use Rattle.deciding.proofs.Counts.{below_tested, pair_order, tested_below}
 use Rattle.deciding.proofs.KnownLemmas.{Has, below_first, below_inside, count_moved, inside_below, known_there, later_not_below, there_known}

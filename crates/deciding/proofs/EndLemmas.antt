@@ -15,7 +15,7 @@ use Rattle.version_pair.specs.PairOrder.{IsBelow}
 use Rattle.version_pair.proofs.ListLemmas.{same_some}
 use Rattle.version_pair.proofs.PairLemmas.{same_pair}
 use Rattle.doc_register.proofs.RunLemmas.{below_trans, not_below_itself, not_both_below}
-use Rattle.deciding.specs.aids.Above.{IsLeastAbove}
+use Rattle.deciding.specs.Above.{IsLeastAbove}
 use Rattle.deciding.specs.Elsewhere.{is_kept}
 use Rattle.deciding.specs.aids.Ends.{AreAbove, HasEnds, IsFreeFrom, IsFrom}
 use Rattle.write_chain.specs.Chain.{pair_cmp}

@@ -4,6 +4,7 @@ pub mod Facts
 pub mod Elsewhere
 pub mod Positions
 pub mod Branches
+pub mod Above
 pub mod Steps
 pub mod Tables
 pub mod Laws

@@ -1,4 +1,3 @@
-pub mod Above
 pub mod Candidates
 pub mod Ends
 pub mod Groups

@@ -1,4 +1,4 @@
-ghost use Rattle.deciding.specs.aids.Above.{IsLeastAbove};
+ghost use Rattle.deciding.specs.Above.{IsLeastAbove};
 
 use version_pair::Pair;
 

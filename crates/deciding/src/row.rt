@@ -73,7 +73,7 @@ impl Row {
     }
 
     /// Returns whether the row is no worse than another one: whatever the other one allows, it allows too.
-    pub fn covers(&self, other: &Row) -> bool
+    pub(crate) fn covers(&self, other: &Row) -> bool
         ensures { (records : List Record) → IsPositioned records self.now → IsPositioned records other.now
             → IsTrue result → Covers records (branch_of self.now) (branch_of other.now) }
     {

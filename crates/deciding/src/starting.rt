@@ -125,12 +125,7 @@ impl Document<'_> {
 
     // Adds the rows of the document with this known pair. Replies may contradict each other about whether it exists then;
     // if none says it, it does.
-    fn push_known(
-        &self,
-        rows: &mut Vec<Row>,
-        pair: Pair,
-        event: usize,
-    ) -> Result<(), NoMemory> {
+    fn push_known(&self, rows: &mut Vec<Row>, pair: Pair, event: usize) -> Result<(), NoMemory> {
         let alloc = *rows.allocator();
         let is_deleted = self.is_left(pair, false);
         if is_deleted {

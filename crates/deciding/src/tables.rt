@@ -72,7 +72,7 @@ pub fn add_row(table: &mut Vec<Row>, row: Row) -> Result<(), NoMemory>
 
 impl Row {
     /// Returns a copy of the row.
-    pub fn copied(&self, alloc: Global) -> Result<Row, NoMemory>
+    pub(crate) fn copied(&self, alloc: Global) -> Result<Row, NoMemory>
         ensures { IfOk result (λ copy. (branch_of copy ≡ branch_of self.now)
             × ((records : List Record) → IsPositioned records self.now → IsPositioned records copy)) }
     {
@@ -90,7 +90,7 @@ impl Row {
     }
 
     /// Returns the row after the reply to the call of this number.
-    pub fn settled(&self, alloc: Global, number: usize) -> Result<Row, NoMemory>
+    pub(crate) fn settled(&self, alloc: Global, number: usize) -> Result<Row, NoMemory>
         ensures { IfOk result (λ row. (branch_of row ≡ settled number (branch_of self.now))
             × ((records : List Record) → IsPositioned records self.now → IsPositioned records row)) }
     {

@@ -1,5 +1,5 @@
 use Rattle.std.proofs.Common.{◌+◌, sym, subst, Some, None}
-use Rattle.deciding.specs.aids.Above.{IsLeastAbove}
+use Rattle.deciding.specs.Above.{IsLeastAbove}
 use Rattle.deciding.proofs.AboveLemmas.{IsMadeOf, first_least, next_least, over_least}
 use Rattle.deciding.proofs.above.least_above.Goals as goal
 

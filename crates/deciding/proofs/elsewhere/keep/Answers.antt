@@ -1,7 +1,7 @@
 use Rattle.std.proofs.Common.{sym, subst, Some, None}
 use Rattle.std.proofs.lemmas.Result.{on_ok_weaker}
 use Rattle.version_pair.proofs.ListLemmas.{none_is_not_some, same_some}
-use Rattle.deciding.specs.aids.Above.{IsLeastAbove}
+use Rattle.deciding.specs.Above.{IsLeastAbove}
 use Rattle.deciding.specs.aids.Ends.{IsFreeFrom}
 use Rattle.deciding.proofs.EndLemmas.{end_after, ends_too, kept_or_itself, kept_too, stays_kept}
 use Rattle.deciding.proofs.elsewhere.keep.Goals.{in-Some, in-None}

@@ -1,7 +1,7 @@
 use Rattle.std.proofs.Common.{refl, subst, sym, Some, None, ◌∙◌, true≢false}
 use Rattle.version_pair.proofs.ListLemmas.{none_is_not_some, same_some}
 use Rattle.version_pair.specs.PairOrder.{IsBelow}
-use Rattle.deciding.specs.aids.Above.{IsLeastAbove}
+use Rattle.deciding.specs.Above.{IsLeastAbove}
 use Rattle.deciding.specs.aids.Candidates.{facts_of}
 use Rattle.deciding.specs.aids.KnownPairs.{IsNextKnown}
 use Rattle.deciding.proofs.BesideLemmas.{free_first, known_first}

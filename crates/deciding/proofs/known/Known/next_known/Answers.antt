@@ -1,5 +1,5 @@
 use Rattle.std.proofs.Common.{subst, sym, ap, Some, None, ◌∙◌, ◌≡◌, slice_get}
-use Rattle.deciding.specs.aids.Above.{IsLeastAbove}
+use Rattle.deciding.specs.Above.{IsLeastAbove}
 use Rattle.deciding.specs.aids.KnownPairs.{IsNextKnown}
 use Rattle.deciding.proofs.BesideLemmas.{next_known, no_next}
 use Rattle.deciding.proofs.ItemLemmas.{copied_get}
