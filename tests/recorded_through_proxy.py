@@ -497,7 +497,7 @@ class Begun(ProxyTest):
                 asker.ask("POST", f"/carts/_update/d{at}", {"script": "delete"})
             asker.ask("DELETE", "/carts")
             said = proxy.ended().splitlines()
-        self.assertEqual(said[0], f"recorded 30 calls in {self.file}, 0 of them without a reply")
+        self.assertEqual(said[0], f"recorded 30 calls in {self.file}, 0 of them without a reply; all are of documents that are not judged")
         self.assertEqual(said[1], "judged: 0 documents, 30 calls; not judged: 30 documents, 30 calls")
         self.assertRegex(said[2], "^casbench_recording.proxy: the recording ended early: DELETE /carts; requests are still passed on, ")
         self.assertEqual(said[3], "the recording ended early: DELETE /carts")

@@ -48,7 +48,8 @@ TWO_COPIES = index(0) + created(0, 1, 0) + index(1, k=2) + get(2) + found(2, 1, 
 ACKNOWLEDGED = RIGHT + index(2, doc="e") + created(2, 1, 2433, doc="e")
 GOES_ON = index(3, doc="f") + created(3, 2, 2434, doc="f")
 STARTS_LOW = index(3, doc="f") + created(3, 2, 2431, doc="f")
-HINT = "hint: term 2 starts at 2431, but 1/2433 was acknowledged: it may be lost, though no reply shows that\n"
+HINT = "hint: shard 0: term 2 starts at 2431, but 1/2433 was acknowledged: it may be lost, though no reply shows that\n"
+LOST_HINT = "hint: shard 0: 1/2431 to 1/2433 were acknowledged and may be lost\n"
 
 # What is written of a part that is finished.
 PART_LINE = "part-%06d.ndjson: yes docs=%d calls=%d left_out=0\n"
@@ -178,7 +179,7 @@ class OneHistory(WatchTest):
         self.append(ACKNOWLEDGED + STARTS_LOW + STALE.replace('"n":2', '"n":9'))
         status, printed, _ = self.ended(self.watched())
         self.assertEqual((status, printed.partition(" ")[0]), (1, "refuted"))
-        self.assertTrue(printed.endswith(HINT), printed)
+        self.assertTrue(printed.endswith(LOST_HINT), printed)
 
     def test_the_end_of_standard_input(self):
         child = self.watched("--every", "60", "--until-closed")
@@ -477,18 +478,18 @@ class TermsOfShards(unittest.TestCase):
         self.assertEqual(self.hints((1, 9), (2, 3, 1), (2, 10)), [])
 
     def test_terms_that_start_too_low(self):
-        self.assertEqual(self.hints((1, 2433), (2, 2431)), ["term 2 starts at 2431, but 1/2433 was acknowledged"])
+        self.assertEqual(self.hints((1, 2433), (2, 2431)), ["shard 0: term 2 starts at 2431, but 1/2433 was acknowledged"])
         # at the same number, whichever was shown first, and by a read
-        self.assertEqual(self.hints((2, 7), (1, 7)), ["term 2 starts at 7, but 1/7 was acknowledged"])
-        self.assertEqual(self.hints((1, 7), (2, 8), (2, 6, 0, READ)), ["term 2 starts at 6, but 1/7 was acknowledged"])
-        self.assertEqual(self.hints((1, 7, 3), (2, 7, 3)), ["shard 3, term 2 starts at 7, but 1/7 was acknowledged"])
+        self.assertEqual(self.hints((2, 7), (1, 7)), ["shard 0: term 2 starts at 7, but 1/7 was acknowledged"])
+        self.assertEqual(self.hints((1, 7), (2, 8), (2, 6, 0, READ)), ["shard 0: term 2 starts at 6, but 1/7 was acknowledged"])
+        self.assertEqual(self.hints((1, 7, 3), (2, 7, 3)), ["shard 3: term 2 starts at 7, but 1/7 was acknowledged"])
 
     def test_a_loss_is_hinted_at_once(self):
-        wanted = ["term 2 starts at 50, but 1/100 was acknowledged"]
+        wanted = ["shard 0: term 2 starts at 50, but 1/100 was acknowledged"]
         self.assertEqual(self.hints((1, 100), (2, 50), (2, 60), (3, 61)), wanted)
-        self.assertEqual(self.hints((1, 100), (2, 50), (2, 60), (3, 60)), [*wanted, "term 3 starts at 60, but 2/60 was acknowledged"])
+        self.assertEqual(self.hints((1, 100), (2, 50), (2, 60), (3, 60)), [*wanted, "shard 0: term 3 starts at 60, but 2/60 was acknowledged"])
         # a term of which nothing was acknowledged hides none
-        self.assertEqual(self.hints((1, 100), (2, 101, 0, READ), (3, 90)), ["term 3 starts at 90, but 1/100 was acknowledged"])
+        self.assertEqual(self.hints((1, 100), (2, 101, 0, READ), (3, 90)), ["shard 0: term 3 starts at 90, but 1/100 was acknowledged"])
 
     def test_what_a_line_shows(self):
         terms = Terms()
@@ -500,7 +501,7 @@ class TermsOfShards(unittest.TestCase):
         reader.read(lines[2:])
         self.assertEqual((reader.length, terms.hints()), (len(text), []))
         reader.read((get(4, ',"shard":2') + found(4, 3, 9)).encode().splitlines(keepends=True))
-        self.assertEqual([str(it) for it in terms.hints()], ["shard 2, term 3 starts at 9, but 1/9 was acknowledged"])
+        self.assertEqual([str(it) for it in terms.hints()], ["shard 2: term 3 starts at 9, but 1/9 was acknowledged"])
 
 
 if __name__ == "__main__":

@@ -66,7 +66,7 @@ LINE_RULED_OUT = "This is proved, since the document is ruled out:"
 RULED_OUT = "This is proved, though the line says no more than `no`:"
 ANSWERED = "This is proved: every write was answered,"
 DOCUMENT_ANSWERED = "This is proved: every write of this document was answered,"
-UNDECIDED = "This `no` is undecided, so it accuses nobody:"
+UNDECIDED = "This `no` is undecided, so it is no sign of a fault:"
 WEIGHTS = (EVIDENT, LINE_RULED_OUT, RULED_OUT, ANSWERED, DOCUMENT_ANSWERED, UNDECIDED)
 
 # The anomaly that the headline names for evidence, and all anomalies that it may name.
@@ -84,6 +84,15 @@ ANOMALIES = {
     "Condition not honoured",
     "Version that nobody wrote",
     "Conflict without a cause",
+}
+
+# The anomalies that the headline may name in place of that of the evidence: a lost write, and a fault of one call or two.
+LOST, FAULTS = "Acknowledged write lost", {"Stale read", "Acknowledged write not seen", "Acknowledged write lost"}
+INSTEAD = {
+    "pair-twice": FAULTS,
+    "no-writer": {*FAULTS, "Lost update", "Condition not honoured", "One version given twice"},
+    "stale-get": {LOST},
+    "stale-swap": {LOST},
 }
 
 # The headline if no anomaly is found.
@@ -175,27 +184,36 @@ def check_story(history, line, ruled_out, story):
 
 
 def check_headline(history, line, story):
-    """The headline of a story names an anomaly if the line has evidence: that of the evidence, if no call of it is answered
-    after the broken reply. Otherwise it names one only if a document is ruled out, or says that replies contradict."""
+    """The headline of a story names an anomaly if the line has evidence: that of the evidence or one that comes before it,
+    if no call of it is answered after the broken reply. Otherwise it names one only if a document is ruled out, or says
+    that replies contradict."""
     _, _, title, *_ = story.split("\n")
     anomaly, weight = title.partition(":")[0], weight_of(story)
     fits = anomaly in ANOMALIES if weight == EVIDENT else anomaly not in ANOMALIES
     if weight in (LINE_RULED_OUT, RULED_OUT):
         fits = anomaly in ANOMALIES or anomaly == CONTRADICTION
-    if not fits or anomaly != ANOMALY_OF.get(kind_of(line), anomaly) and not is_late(history, line):
+    kind = kind_of(line)
+    is_named = anomaly in {ANOMALY_OF.get(kind, anomaly), *INSTEAD.get(kind, ())}
+    if not fits or not is_named and not is_late(history, line):
         raise AssertionError(f"{line}, and the headline is {title}")
 
 
 def check_reasons(program, history, line, story):
-    """The reasons cite a line after the broken reply only if the events up to it aren't refuted by themselves."""
-    cited = lines_cited(reasons(story))
+    """The reasons cite a line after the broken reply only if the events up to it aren't refuted by themselves, or if
+    reasons without a later line come second."""
+    why = reasons(story)
+    cited = lines_cited(why)
     if not cited:
         return
     broken = int(OFFENCE.fullmatch(line)["event"]) + 1
-    if max(cited) > broken:
-        begin = "".join(history.text.splitlines(keepends=True)[:broken])
-        if kind_of(answer(program, "check", begin, history.reading, "--rule-out")) != "no":
-            raise AssertionError(f"{line}, and the reasons cite line {max(cited)}: {story[:1200]}")
+    if max(cited) <= broken:
+        return
+    begin = "".join(history.text.splitlines(keepends=True)[:broken])
+    if kind_of(answer(program, "check", begin, history.reading, "--rule-out")) == "no":
+        return
+    second = why.partition(f"Without the lines after line {broken} that is not seen yet, ")[2].partition("\n")[2]
+    if not lines_cited(second) or max(lines_cited(second)) > broken:
+        raise AssertionError(f"{line}, and the reasons cite later lines: {story[:1200]}")
 
 
 def check_explanation(program, history, line, ruled_out, *options):

@@ -25,9 +25,9 @@ fn add_offence(draft: &mut Draft<'_>, explained: &Subjects<'_>, call: &Call<'_>)
     let before = if explained.account.is_alone(&call.record) {
         "This get is judged by itself: any copy may have answered it, but none that is in sync answers so."
     } else if unexplained.before_shown {
-        "The events before this reply have an order; with it, none was found."
+        "Up to the line before it the recording is explained; with this line it is not."
     } else {
-        "No order was found for the events before this reply either."
+        "The recording up to the line before it is not explained either."
     };
     draft.paragraph(
         "The reply that broke it: line {0}, the reply to call {1.no} ({1.asked}, called in line {1.called}): {1.heard}. {2}",
@@ -97,8 +97,8 @@ fn add_findings<S: OrderSearch>(
     let unexplained = &explained.unexplained;
     let title = add_headline(draft, explained, found);
     add_answer(draft, explained);
-    add_why(draft, explained, search)?;
-    add_damage(draft, explained)?;
+    add_why(draft, explained, found, search)?;
+    add_damage(draft, explained, found)?;
     add_profile(draft, explained, search)?;
     Ok(title)
 }
@@ -137,7 +137,7 @@ pub fn failing_story<S: OrderSearch>(
     let unexplained = &explained.unexplained;
     let subjects = explained.list.as_slice();
     let found = diagnosis_of(unexplained, subjects);
-    let named = Named::of(alloc, unexplained, subjects)?;
+    let named = Named::of(alloc, unexplained, subjects, found)?;
     let mut draft = Draft::new(alloc, lines);
     let title = add_findings(&mut draft, explained, found, search)?;
     add_failing_timeline(&mut draft, explained, search, &named, view)?;

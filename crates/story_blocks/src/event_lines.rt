@@ -187,6 +187,22 @@ impl EventLines {
         }
     }
 
+    // Returns when the line of the event at this position was written, in milliseconds since 1970, if it says so.
+    fn moment(&self, place: usize) -> Option<i64> {
+        let before = self.moments.partition_point(|moment| moment.place < place);
+        match self.moments.get(before) {
+            Some(moment) if moment.place == place => Some(moment.millisecond),
+            _ => None,
+        }
+    }
+
+    /// Returns how many milliseconds passed between the lines of two events, if both say when they were written and the
+    /// first one was written first.
+    pub fn milliseconds(&self, first: usize, last: usize) -> Option<u64> {
+        let passed = self.moment(last)?.checked_sub(self.moment(first)?)?;
+        u64::try_from(passed).ok()
+    }
+
     /// Returns the line of the event at this position, as sentences name it.
     pub fn line(&self, place: usize) -> ReportedLine {
         let number = self.number(place);

@@ -67,9 +67,21 @@ fn add_calls(text: &mut String, table: &CallTable) -> Result<(), NoMemory> {
     Ok(())
 }
 
-// Adds the lines of an order.
+// The greatest number of calls of an order that plain text shows: the last ones.
+const MOST_PLACES: usize = 8;
+
+// Adds the lines of the end of an order; the page has more.
 fn add_places(text: &mut String, places: &[PlaceReported]) -> Result<(), NoMemory> {
-    for place in places {
+    let on_page = places.len().saturating_sub(MOST_PLACES);
+    if on_page > 0 {
+        let words = [Number(on_page as u64)];
+        add_sentences(
+            text,
+            &["Further calls of it, only on the page of --html: {}.\n"],
+            &words,
+        )?;
+    }
+    for place in places.iter().skip(on_page) {
         let words = [
             Number(place.no),
             Phrase(place.asked.as_str()),

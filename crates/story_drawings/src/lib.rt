@@ -1,7 +1,7 @@
 //! Tables and drawings of calls: which calls are shown, in which lanes, and the versions of a document below them.
 //!
 //! ```text
-//! let named = Named::of(alloc, &unexplained, &subjects)?; // the calls that evidence and reasons name
+//! let named = Named::of(alloc, &unexplained, &subjects, headline)?; // the calls that evidence, reasons and the headline name
 //! let drawing = drawing_of(&draft, &drawn)?;
 //! ```
 #![tactic(auto)]

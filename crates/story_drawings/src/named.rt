@@ -4,7 +4,8 @@ use events::{History, Rec};
 use std::alloc::Global;
 use story_blocks::{EventLines, Mark};
 use story_reasons::{
-    Call, EvidenceCalls, Reason, Subject, Unexplained, call_of, end_of, in_order, version_shown,
+    Anomaly, Call, Diagnosis, EvidenceCalls, Reason, Subject, Unexplained, call_of, end_of,
+    in_order, version_shown,
 };
 use version_pair::{NoMemory, Pair};
 
@@ -30,11 +31,12 @@ pub struct Named {
 }
 
 impl Named {
-    /// Returns what the calls of an offence, of evidence and of the reasons name.
+    /// Returns what the calls of an offence, of evidence, of the reasons and of the headline name.
     pub fn of(
         alloc: Global,
         unexplained: &Unexplained<'_>,
         subjects: &[Subject<'_>],
+        headline: Option<Diagnosis>,
     ) -> Result<Named, NoMemory> {
         let mut named = Named {
             broken: unexplained.call,
@@ -53,7 +55,35 @@ impl Named {
                 named.add_reason(reason)?;
             }
         }
+        if let Some(found) = headline {
+            named.add_headline(unexplained.whole, subjects, found)?;
+        }
         Ok(named)
+    }
+
+    // Adds the calls that the headline follows from beside those: its own evidence, or of a loss the first call that shows
+    // an older state and the first write that was performed on one.
+    fn add_headline(
+        &mut self,
+        whole: &History,
+        subjects: &[Subject<'_>],
+        found: Diagnosis,
+    ) -> Result<(), NoMemory> {
+        if let Some(evidence) = found.evidence {
+            self.add_evidence(whole, EvidenceCalls::of(evidence))?;
+        }
+        if found.anomaly != Anomaly::LostWrite {
+            return Ok(());
+        }
+        for subject in subjects {
+            if let Some(loss) = &subject.findings.loss
+                && let Some(builder) = &loss.builder
+            {
+                self.add(&loss.shower)?;
+                self.add(builder)?;
+            }
+        }
+        Ok(())
     }
 
     // Notes the versions that the call names, and its last event.

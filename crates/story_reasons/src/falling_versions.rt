@@ -2,11 +2,12 @@ use events::Rec;
 use std::alloc::Global;
 use version_pair::{NoMemory, Pair};
 
-/// A write that was performed, and the version that it was given.
+/// A write that was performed, the version that it was given, and the position of its reply.
 #[derive(Clone, Copy)]
 pub struct VersionedWrite {
     pub write: Rec,
     pub pair: Pair,
+    pub event: usize,
 }
 
 /// A write that got a version below one that had been given before the write was made.
@@ -16,20 +17,22 @@ pub struct VersionFall {
     pub after: VersionedWrite,
 }
 
-// A reply to a write that was performed, and the write with the greatest version among those that were answered
-// up to it.
+/// A reply to a write that was performed, and the write with the greatest version among those that were answered
+/// up to it.
 #[derive(Clone, Copy)]
-struct Reached {
-    event: usize,
-    greatest: VersionedWrite,
+pub struct Reached {
+    pub event: usize,
+    pub greatest: VersionedWrite,
 }
 
-// Returns the record as a write that was performed; `None` if its reply doesn't say so.
-fn performed_by(record: &Rec) -> Option<VersionedWrite> {
+/// Returns the record as a write that was performed; `None` if its reply doesn't say so.
+pub fn performed_by(record: &Rec) -> Option<VersionedWrite> {
     let pair = record.pair_taken()?;
+    let heard = record.heard?;
     Some(VersionedWrite {
         write: *record,
         pair,
+        event: heard.0,
     })
 }
 
@@ -37,8 +40,8 @@ fn performed_by(record: &Rec) -> Option<VersionedWrite> {
 fn performed_by_reply(alloc: Global, records: &[Rec]) -> Result<Vec<Reached>, NoMemory> {
     let mut all = Vec::new(alloc);
     for record in records {
-        if let (Some(greatest), Some(heard)) = (performed_by(record), record.heard) {
-            let event = heard.0;
+        if let Some(greatest) = performed_by(record) {
+            let event = greatest.event;
             all.push(Reached { event, greatest })?;
         }
     }
@@ -46,8 +49,8 @@ fn performed_by_reply(alloc: Global, records: &[Rec]) -> Result<Vec<Reached>, No
     Ok(all)
 }
 
-// Returns what was reached with each reply to a write that was performed, in response order.
-fn reached_by_reply(alloc: Global, records: &[Rec]) -> Result<Vec<Reached>, NoMemory> {
+/// Returns what was reached with each reply to a write that was performed, in response order.
+pub fn reached_by_reply(alloc: Global, records: &[Rec]) -> Result<Vec<Reached>, NoMemory> {
     let mut all = performed_by_reply(alloc, records)?;
     let mut last: Option<VersionedWrite> = None;
     for it in all.iter_mut() {

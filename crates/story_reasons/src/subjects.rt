@@ -1,5 +1,6 @@
 use crate::accounts::Account;
 use crate::calls::{Call, EvidenceCalls, call_of, end_of};
+use crate::findings::{Findings, findings_of};
 use crate::reason::{Reason, reason_of};
 use crate::subject::Unexplained;
 use events::{History, Rec};
@@ -18,6 +19,8 @@ pub struct Subject<'h> {
     whole_records: Option<Vec<Rec>>,
     /// Why no order explains it, if it is ruled out.
     pub reason: Option<Reason>,
+    /// What is found of its calls in the whole text without regard to what became of those without a reply.
+    pub findings: Findings,
 }
 
 impl<'h> Subject<'h> {
@@ -154,12 +157,19 @@ impl<'h> Subjects<'h> {
                 let reason = reason_in_text(alloc, account, *doc)?.filter(|reason| !is_evident
                     || !reason.names_after(unexplained.event));
                 let id = history.doc(*doc);
+                let whole_records = whole_records(unexplained, id)?;
+                let all = match &whole_records {
+                    Some(records) => records.as_slice(),
+                    None => records.as_slice(),
+                };
+                let findings = findings_of(alloc, all, unexplained.conflicts)?;
                 list.push(Subject {
                     id,
                     shard: history.shard(*doc),
                     records,
-                    whole_records: whole_records(unexplained, id)?,
+                    whole_records,
                     reason,
+                    findings,
                 })?;
             }
         }

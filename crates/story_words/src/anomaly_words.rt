@@ -30,9 +30,9 @@ pub fn words_of(anomaly: Anomaly) -> AnomalyWords {
             look: "Find the copies that answered the two calls, and what each of them held. A write that is shown before it is acknowledged, and then rolled back, is a dirty read; two copies that answer with different states are another cause. Look for a change of the primary in between.",
         },
         Anomaly::LostWrite => AnomalyWords {
-            what: "Acknowledged write lost: a write was answered as if an acknowledged one before it had not been made",
-            rule_out: "An index that was re-created, or restored from a snapshot, between the two writes. An unrecorded client that changed the document between them. A write whose line was written only after it was sent: the two may have overlapped. A store whose numbers are not assigned in the order of its changes.",
-            look: "Look for a change of the primary between the two writes: a copy that became the primary without holding the acknowledged write, or a primary that came back with older data. Compare what each copy holds now, before they are repaired.",
+            what: "Acknowledged write lost: a reply shows the document as if an acknowledged write before it had not been made",
+            rule_out: "An index that was re-created, or restored from a snapshot, between the two calls. An unrecorded client that changed the document between them. A call whose line was written only after it was sent: the two may have overlapped. A store whose numbers are not assigned in the order of its changes.",
+            look: "Look for a change of the primary between the two calls: a copy that became the primary without holding the acknowledged write, or a primary that came back with older data. Compare what each copy holds now, before they are repaired.",
         },
         Anomaly::LostUpdate => AnomalyWords {
             what: "Lost update: a write was performed though the version that its condition asks for had been replaced",
@@ -51,12 +51,12 @@ pub fn words_of(anomaly: Anomaly) -> AnomalyWords {
         },
         Anomaly::UnwrittenValue => AnomalyWords {
             what: "Read of something nobody wrote: a get returned what no recorded write can have written",
-            rule_out: "An unrecorded client that writes the document: look for one first. A document that was there before the recording began. A write whose line is missing or was written late: a recorder has to write each call down before it sends it. A write that was retried below the recorder, so that the recorded reply is that of the second attempt.",
+            rule_out: "An unrecorded client that writes the document: look for one first. A document that was there before the recording began, or a write that was sent before it began and performed later. A write whose line is missing or was written late: a recorder has to write each call down before it sends it. A write that was retried below the recorder, so that the recorded reply is that of the second attempt.",
             look: "Read the document from each copy and compare them: a copy that differs is damaged, or holds what another document was given. Look for a recovery or a move of the shard at that time.",
         },
         Anomaly::UnwrittenVersion => AnomalyWords {
             what: "Version that nobody wrote: a reply needs a version that no recorded write can have made",
-            rule_out: "An unrecorded client that writes the document: look for one first. A document that was there before the recording began. A write whose line is missing or was written late. A write that was retried below the recorder, so that the recorded reply is that of the second attempt.",
+            rule_out: "An unrecorded client that writes the document: look for one first. A document that was there before the recording began, or a write that was sent before it began and performed later. A write whose line is missing or was written late. A write that was retried below the recorder, so that the recorded reply is that of the second attempt.",
             look: "Compare what each copy holds of the document, and the history of its versions if the store keeps one. Look for a recovery or a move of the shard, and for a change of the primary, at that time.",
         },
         Anomaly::UnfoundedConflict => AnomalyWords {

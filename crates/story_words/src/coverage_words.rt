@@ -96,7 +96,7 @@ fn add_warnings(draft: &mut Draft<'_>, coverage: &Coverage) {
     }
     match coverage.terms {
         Some(terms) if terms.least == terms.greatest => draft.paragraph(
-            "All versions are of one primary term, so no change of the primary left a trace in this recording.",
+            "All versions are of one primary term: no failover is visible in this recording.",
             &[],
         ),
         _ => (),

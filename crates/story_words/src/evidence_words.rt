@@ -1,9 +1,9 @@
-use events::Rec;
+use events::{History, Rec};
 use evidence::Refuted;
 use readings::{Gets, Reading, Writes};
 use story_blocks::Word::{Id, Number};
 use story_blocks::{Draft, unreported_kind};
-use story_reasons::{Call, EvidenceCalls, Unexplained, call_of};
+use story_reasons::{Call, EvidenceCalls, call_of};
 
 // The words of these templates are those of `add_evidence`: 0 and 1 are the two calls that the evidence names, in its
 // order, 2 and 3 their documents, 4 their shard, and 5 which writes have no reply that says whether they were performed.
@@ -90,12 +90,11 @@ pub struct EvidentCalls<'h> {
 
 /// Returns the evidence with its calls. Returns `None` if there is none, if the history doesn't have its calls, and for
 /// `Refuted::RuledOut`.
-pub fn evident_calls<'h>(unexplained: &Unexplained<'h>) -> Option<EvidentCalls<'h>> {
-    let evidence = match unexplained.evidence {
+pub fn evident_calls(history: &History, evidence: Option<Refuted>) -> Option<EvidentCalls<'_>> {
+    let evidence = match evidence {
         None | Some(Refuted::RuledOut(_)) => return None,
         Some(evidence) => evidence,
     };
-    let history = unexplained.history;
     let calls = EvidenceCalls::of(evidence);
     let second = calls.second.unwrap_or(calls.first);
     match (call_of(history, calls.first), call_of(history, second)) {

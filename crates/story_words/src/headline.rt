@@ -42,7 +42,7 @@ pub fn certainty_words(certainty: Certainty) -> &'static str {
             "This is proved: every write of this document was answered, and there is no order of its calls with these answers, whatever became of the writes of other documents."
         }
         Certainty::Undecided => {
-            "This `no` is undecided, so it accuses nobody: some writes have no reply that says whether they were performed, and the search for an order with such writes is bounded and misses some."
+            "This `no` is undecided, so it is no sign of a fault: some writes have no reply that says whether they were performed, and the search for an order with such writes is bounded and misses some."
         }
     }
 }
@@ -59,7 +59,7 @@ pub fn add_headline(
     let number = Number(unexplained.call);
     let named = match found {
         Some(found) if !matches!(found.anomaly, Anomaly::Unnamed) => {
-            call_of(unexplained.history, found.call)
+            call_of(unexplained.whole, found.call)
         }
         _ => None,
     };

@@ -3,7 +3,7 @@
 //!
 //! ```text
 //! let title = add_headline(&mut draft, &subjects, diagnosis);
-//! add_why(&mut draft, &subjects, &search)?;
+//! add_why(&mut draft, &subjects, diagnosis, &search)?;
 //! ```
 #![tactic(auto)]
 

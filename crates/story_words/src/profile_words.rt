@@ -6,7 +6,7 @@ use story_reasons::{OrderSearch, Subjects};
 use version_pair::NoMemory;
 
 const EXPLAINED: &str =
-    "So as OpenSearch documents itself this is explained: a get may be answered by any copy, one of which shows a write that is not acknowledged yet, a write may be sent again by the coordinating node after it lost the connection to the primary, and a conflict is tested against the primary's own state. This accuses a store that promises more, such as that each get shows the last change, but no OpenSearch whose gets any copy may answer. If all gets asked the primary (`preference=_primary`), check with `--profile opensearch --gets last`.";
+    "So as OpenSearch documents itself this is explained: a get may be answered by any copy, one of which shows a write that is not acknowledged yet, a write may be sent again by the coordinating node after it lost the connection to the primary, and a conflict is tested against the primary's own state. It is a fault of a store that promises more, such as that each get shows the last change, but not of an OpenSearch whose gets any copy may answer. If all gets asked the primary (`preference=_primary`), check with `--profile opensearch --gets last`.";
 
 const REFUTED: &str =
     "So what OpenSearch documents doesn't explain it either: neither gets answered by several copies, nor writes sent again by the coordinating node, nor conflicts tested against the primary's own state.";

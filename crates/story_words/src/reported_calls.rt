@@ -1,3 +1,4 @@
+use evidence::Refuted;
 use story_blocks::Draft;
 use story_blocks::Word::{Number, Text};
 use story_reasons::{EvidenceCalls, Unexplained, call_of};
@@ -12,8 +13,16 @@ fn add_shortness(draft: &mut Draft<'_>, unexplained: &Unexplained<'_>) {
     }
 }
 
-/// Adds which calls the first line names, if the reasons are those of a prefix instead; or that these are the same.
-pub fn add_reported_calls(draft: &mut Draft<'_>, unexplained: &Unexplained<'_>) {
+/// Adds which calls the first line names, if the reasons are those of a prefix instead; or that these are the same. Adds
+/// nothing if the evidence of the headline is among the reasons and the first line names no other.
+pub fn add_reported_calls(
+    draft: &mut Draft<'_>,
+    unexplained: &Unexplained<'_>,
+    headline: Option<Refuted>,
+) {
+    if headline.is_some() && (unexplained.reported.is_none() || unexplained.reported == headline) {
+        return;
+    }
     let Some(evidence) = unexplained.reported else {
         return add_shortness(draft, unexplained);
     };

@@ -39,6 +39,18 @@ fn missed_by(get: &Rec, records: &[Rec]) -> Option<Pair> {
     Some(reached)
 }
 
+// Whether two writes were given the version.
+fn is_given_twice(records: &[Rec], pair: Pair) -> bool {
+    let mut count = 0usize;
+    for record in records {
+        if record.pair_taken() == Some(pair) {
+            // A document has too few calls for the sum to reach the greatest number.
+            count = count.saturating_add(1);
+        }
+    }
+    count > 1
+}
+
 // Returns the first call that was made after the event and whose reply shows the version.
 fn shown_after(records: &[Rec], event: usize, pair: Pair) -> Option<Rec> {
     for record in records {
@@ -55,6 +67,13 @@ fn add_again(draft: &mut Draft<'_>, records: &[Rec], broken: &Rec) {
     let (Some(pair), Some(heard)) = (missed_by(broken, records), broken.heard) else {
         return;
     };
+    if is_given_twice(records, pair) {
+        draft.paragraph(
+            "The version {0} was given to two writes of the document, so a later reply with it doesn't say whether the first of them is still there.",
+            &[Version(Some(pair))],
+        );
+        return;
+    }
     match shown_after(records, heard.0, pair) {
         Some(later) => draft.paragraph(
             "The version {0} is shown again by call {1.no} (line {1.replied}), which was made after the reply to call {2.no}: so it was not lost for good, which suggests a reply from an older copy.",
@@ -64,6 +83,25 @@ fn add_again(draft: &mut Draft<'_>, records: &[Rec], broken: &Rec) {
             "No call that was made after the reply to call {1.no} shows the version {0} again, so nothing here says whether it is still there.",
             &[Version(Some(pair)), draft.call(broken)],
         ),
+    }
+}
+
+// Adds which write shows that acknowledged writes are gone, if one does; else whether what a get missed is shown again.
+fn add_fate(draft: &mut Draft<'_>, subject: &Subject<'_>, broken: &Rec) {
+    let builder = match &subject.findings.loss {
+        Some(loss) => loss.builder.map(|builder| (builder, loss.lost)),
+        None => None,
+    };
+    match &builder {
+        Some((builder, lost)) => draft.paragraph(
+            "Call {0.no} ({0.asked}) was performed on the older state (line {0.replied}), and no later reply shows or builds on what was acknowledged before it: {1} to {2}. So that is not only unread: it is gone.",
+            &[
+                draft.call(builder),
+                Version(Some(lost.least)),
+                Version(Some(lost.greatest)),
+            ],
+        ),
+        None => add_again(draft, subject.all(), broken),
     }
 }
 
@@ -82,7 +120,7 @@ fn is_written_after(records: &[Rec], event: usize) -> bool {
 fn add_fall(draft: &mut Draft<'_>, records: &[Rec], broken: &Rec) -> Result<(), NoMemory> {
     match (version_fall(draft.alloc, records)?, broken.heard) {
         (Some(fall), _) => draft.paragraph(
-            "The document's versions fall back: call {0.no} was given {0.version}, and call {1.no}, made after that reply, {1.version} (line {1.replied}). This suggests an index that was re-created, or for a copy that counted on from older data.",
+            "The document's versions fall back: call {0.no} was given {0.version}, and call {1.no}, made after that reply, {1.version} (line {1.replied}). This suggests an index that was re-created, or a copy that counted on from older data.",
             &[
                 draft.call(&fall.before.write),
                 draft.call(&fall.after.write),
@@ -115,12 +153,17 @@ fn documents_words(unexplained: &Unexplained<'_>) -> Option<&'static str> {
 }
 
 // Adds what the calls of a document say, if the call that shows the anomaly is one of them.
-fn add_subject(draft: &mut Draft<'_>, records: &[Rec], found: Diagnosis) -> Result<(), NoMemory> {
+fn add_subject(
+    draft: &mut Draft<'_>,
+    subject: &Subject<'_>,
+    found: Diagnosis,
+) -> Result<(), NoMemory> {
+    let records = subject.all();
     let Some(broken) = record_of(records, found.call) else {
         return Ok(());
     };
     if found.anomaly.is_of_state() {
-        add_again(draft, records, &broken);
+        add_fate(draft, subject, &broken);
         return add_fall(draft, records, &broken);
     }
     // An index that was re-created makes the same picture.
@@ -141,7 +184,7 @@ pub fn add_signs(
         draft.paragraph(words, &[]);
     }
     for subject in subjects {
-        add_subject(draft, subject.all(), found)?;
+        add_subject(draft, subject, found)?;
     }
     Ok(())
 }

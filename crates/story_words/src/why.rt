@@ -10,7 +10,8 @@ use readings::{Gets, Reading};
 use story_blocks::Draft;
 use story_blocks::Word::{Id, Number};
 use story_reasons::{
-    EvidenceCalls, OrderSearch, Reason, Subject, Subjects, Unexplained, call_of, record_of,
+    Diagnosis, EvidenceCalls, OrderSearch, Reason, Subject, Subjects, Unexplained, call_of,
+    record_of,
 };
 use version_pair::NoMemory;
 
@@ -169,16 +170,45 @@ fn add_tried(draft: &mut Draft<'_>, explained: &Subjects<'_>) {
     }
 }
 
+// Returns the evidence that the headline follows from, if it has its own.
+fn evidence_of(found: Option<Diagnosis>) -> Option<Refuted> {
+    match found {
+        Some(found) => found.evidence,
+        None => None,
+    }
+}
+
+// Adds the evidence that the headline follows from, if that is complete only with a line after the broken reply.
+fn add_headline_evidence(
+    draft: &mut Draft<'_>,
+    explained: &Subjects<'_>,
+    found: Option<Diagnosis>,
+) {
+    let unexplained = &explained.unexplained;
+    let (Some(found), Some(evident)) = (found, evident_calls(unexplained.whole, evidence_of(found)))
+    else {
+        return;
+    };
+    add_evidence(draft, &evident, explained.account.reading);
+    if found.event > unexplained.event {
+        draft.paragraph(
+            "Without the lines after line {} that is not seen yet, but no order has the replies up to it either:",
+            &[draft.line(unexplained.event)],
+        );
+    }
+}
+
 /// Adds why no order can have the replies, if it is known: by evidence, and for each document that is ruled
 /// out; then which calls the first line names, if these are others.
 pub fn add_why<S: OrderSearch>(
     draft: &mut Draft<'_>,
     explained: &Subjects<'_>,
+    found: Option<Diagnosis>,
     search: &S,
 ) -> Result<(), NoMemory> {
     let unexplained = &explained.unexplained;
     let reading = explained.account.reading;
-    let evident = evident_calls(unexplained);
+    let evident = evident_calls(unexplained.history, unexplained.evidence);
     let is_tried = evident.is_none() && !have_reasons(&explained.list);
     if is_tried && !is_ruled_out(unexplained.certainty) {
         return Ok(());
@@ -187,6 +217,7 @@ pub fn add_why<S: OrderSearch>(
         Gets::Last => "Why no order can have these replies",
         Gets::Any => "Why nothing explains these replies",
     });
+    add_headline_evidence(draft, explained, found);
     add_other_document(draft, unexplained, &explained.list);
     if is_tried {
         add_tried(draft, explained);
@@ -195,6 +226,6 @@ pub fn add_why<S: OrderSearch>(
         add_evidence(draft, evident, reading);
     }
     add_subjects(draft, explained, search)?;
-    add_reported_calls(draft, unexplained);
+    add_reported_calls(draft, unexplained, evidence_of(found));
     Ok(())
 }

@@ -307,6 +307,8 @@ def report_end(setting: argparse.Namespace, proxy: Proxy) -> None:
         recorded = (
             f"recorded {counted(calls, 'call')} in {setting.file}, {unanswered} of them without a reply"
         )
+        if not documents.judged:
+            recorded = f"{recorded}; all are of documents that are not judged"
         report_last([recorded, f"judged: {judged}; not judged: {left_out}"], 1)
         report_last([f"the check that fits: {fits}"] if fits is not None else [], 1)
     report_last([*([] if calls else ["no call was made, so there is no file"]), *judge.unjudged.report()])

@@ -224,7 +224,7 @@ class Watch:
             if len(self.histories) > 1 or snapshot.path != self.setting.out:
                 print(f"{escaped(snapshot.path)}:")
             print(explained if explained.startswith(f"{line}\n") else f"{line}\n", end="", flush=True)
-            self.report_hints()
+            self.report_hints(True)
         except OSError as fault:
             # (the reader is gone)
             report_fault(str(fault))
@@ -248,14 +248,18 @@ class Watch:
         for answer in answers:
             if not os.path.isdir(self.setting.out) or answer.word != "yes":
                 print(answer.line)
-        self.report_hints()
+        self.report_hints(False)
         return max(it.status for it in answers)
 
-    def report_hints(self) -> None:
-        """Prints what the answers don't say: which acknowledged writes may be lost, and what isn't judged."""
+    def report_hints(self, is_refuted: bool) -> None:
+        """Prints what the answers don't say: which acknowledged writes may be lost, and what isn't judged.
+
+        A history that is refuted already shows that something is wrong: only what may be lost is said of it.
+        """
         for terms in self.terms.values():
             for it in terms.hints():
-                print(f"hint: {it}: it may be lost, though no reply shows that", flush=True)
+                hint = it.lost() if is_refuted else f"{it}: it may be lost, though no reply shows that"
+                print(f"hint: {hint}", flush=True)
         report_unjudged(self.setting.out)
 
 

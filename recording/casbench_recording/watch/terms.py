@@ -31,9 +31,15 @@ class Hint(NamedTuple):
     acknowledged: Pair
 
     def __str__(self) -> str:
-        where = f"shard {self.shard}, " if self.shard else ""
         lost = f"{self.acknowledged.term}/{self.acknowledged.seq} was acknowledged"
-        return f"{where}term {self.start.term} starts at {self.start.seq}, but {lost}"
+        return f"shard {self.shard}: term {self.start.term} starts at {self.start.seq}, but {lost}"
+
+    def lost(self) -> str:
+        """Returns which acknowledged versions may be lost: those with numbers that the term gives again."""
+        term, seq = self.acknowledged
+        first, last = f"{term}/{self.start.seq}", f"{term}/{seq}"
+        which = f"{last} was" if first == last else f"{first} to {last} were"
+        return f"shard {self.shard}: {which} acknowledged and may be lost"
 
 
 class Terms:
